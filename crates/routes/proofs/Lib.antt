@@ -1,0 +1,6 @@
+pub mod Slots
+pub mod Lists
+pub mod Turns
+pub mod Order
+pub mod Moves
+pub mod Keeps
