@@ -1,0 +1,2 @@
+-- The lemmas of the program.
+pub mod Serves
