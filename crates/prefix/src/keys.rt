@@ -4,6 +4,7 @@ ghost use Prim.Native.Nat.{ℕ, _+_, _-_, _*_, _/_, _%_, _^_, _<_, _≤_};
 ghost use lib.Dec.{eqb, ltb};
 ghost use lib.ListN.{length, getD};
 ghost use Rattle.prefix.specs.Words.{loaded, width};
+ghost use Rattle.prefix.specs.Routes.{first};
 
 pub trait Key: Copy + Drop {
     // The number that the key is.
@@ -48,6 +49,26 @@ pub trait Key: Copy + Drop {
     // The bits behind them, moved up by four.
     fn rest(self) -> Self
         ensures { λ r. ⌜ num r ≡ num self % 2 ^ (width words - 4) * 16 ⌝ };
+
+    // The first `len` bits, as a number.
+    fn first(self, len: u32) -> Self
+        requires { ⌜ len ≤ width words ⌝ }
+        ensures { λ r. ⌜ num r ≡ first (width words) len (num self) ⌝ };
+
+    // The key that begins with this number of `len` bits, and has only zeros behind.
+    fn placed(self, len: u32) -> Self
+        requires short { ⌜ len ≤ width words ⌝ }
+        requires below { ⌜ num self < 2 ^ len ⌝ }
+        ensures { λ r. ⌜ num r ≡ num self * 2 ^ (width words - len) ⌝ };
+
+    // This number with four bits more.
+    fn joined(self, nibble: u32) -> Self
+        requires { ⌜ 16 * num self + nibble < 2 ^ width words ⌝ }
+        ensures { λ r. ⌜ num r ≡ 16 * num self + nibble ⌝ };
+
+    // This number without its last bit.
+    fn half(self) -> Self
+        ensures { λ r. ⌜ num r ≡ num self / 2 ⌝ };
 }
 
 pub impl Key for u32 as U32Key {
@@ -85,5 +106,21 @@ pub impl Key for u32 as U32Key {
 
     fn rest(self) -> u32 {
         self % 0x1000_0000 * 16
+    }
+
+    fn first(self, len: u32) -> u32 {
+        ((self as u64) >> (32 - len)) as u32
+    }
+
+    fn placed(self, len: u32) -> u32 {
+        ((self as u64) << (32 - len)) as u32
+    }
+
+    fn joined(self, nibble: u32) -> u32 {
+        self * 16 + nibble
+    }
+
+    fn half(self) -> u32 {
+        self / 2
     }
 }
