@@ -20,8 +20,9 @@ const LAST_HOP: u64 = 65_535;
 // A row for so many routes, or none where there is no memory for it.
 pub(crate) fn make(heap: Global, room: u64) -> Option<Vec<u32>> {
     let room = u32::try_from(room).ok()?;
-    let mut row = vec![in heap; 0; 2 + STRIDE * room as usize].ok()?;
-    routes::clear::<u32>(&mut row, STRIDE, room);
+    let long = table::row_length(room)?;
+    let mut row = vec![in heap; 0; long].ok()?;
+    table::make_empty(&mut row, room).ok()?;
     Some(row)
 }
 

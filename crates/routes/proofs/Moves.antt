@@ -1,7 +1,7 @@
 -- What a gap that was opened or closed in a row is to its list of routes. Assumes nothing.
 use mathlib.Core.Path.{_≡_, refl, sym, ap, _∙_}
 use mathlib.Core.Bool.{true, cond, _&&_}
-use mathlib.Core.List.{List, []}
+use mathlib.Core.List.{List}
 use mathlib.Core.Logic.{_≢_, ⊎-elim}
 use Prim.Native.Nat.{ℕ, zero, suc, _+_, _-_, _*_, _^_, _≤_, _<_}
 use native.Mathlib.Omega.{arith}
@@ -11,7 +11,7 @@ use borrow.Rule.Slice.PartMut.{putMid}
 use Rattle.std.specs.shelf.Lists.{inserted, removed}
 use Rattle.std.proofs.shelf.Counted.{fill-by-all}
 use Rattle.std.proofs.shelf.Edits.{length-inserted, getD-inserted-below, getD-inserted-at, getD-inserted-above, length-removed, getD-removed-below, getD-removed-above}
-use Rattle.std.proofs.shelf.Lists.{places, length-drop, length-take-le, getD-set-same, getD-set-other, length-set, nil-from-length}
+use Rattle.std.proofs.shelf.Lists.{places, length-drop, length-take-le, getD-set-same, getD-set-other, length-set}
 use Rattle.std.proofs.shelf.Tests.{cases-eq, cases-lt, cases-order}
 use Rattle.std.proofs.shelf.Ways.{tells}
 use Rattle.prefix.specs.Words.{loaded}
@@ -262,15 +262,3 @@ replaced words stride old new k r less bits len is =
       room = c .room;
       row = is;
     }
-
--- a row whose two counts were written anew
-pub cleared : (words stride : ℕ) (old : List ℕ) (room : ℕ) → words + 2 ≤ stride → 2 ≤ length old → slot stride room ≤ length old
-    → (routes words stride (set (set old 0 0) 1 room) ≡ []) × (room-in words stride (set (set old 0 0) 1 room) ≡ room)
-cleared words stride old room wide two long =
-    let new : List ℕ = set (set old 0 0) 1 room in
-    let size : length new ≡ length old = length-set (set old 0 0) 1 room ∙ length-set old 0 0 in
-    let zeroth : getD new 0 0 ≡ 0 = getD-set-other (set old 0 0) 1 0 room 0 (omega arith) ∙ getD-set-same old 0 0 0 (omega arith) in
-    let one : getD new 1 0 ≡ room = getD-set-same (set old 0 0) 1 room 0 (rw length-set (omega arith)) in
-    let product : stride * getD new 1 0 ≡ stride * room = ap (λ (m : ℕ). stride * m) one in
-    let is : listing words stride new ≡ true = grind (arith, tells) in
-    (nil-from-length _ (length-routes words stride new ∙ grind (arith, tells)), grind (arith, tells))

@@ -1,9 +1,7 @@
 -- What a change of a route list answers and leaves, in any list; and what it comes to in a list in order. Assumes nothing: these are definitions.
 use mathlib.Core.Path.{_≡_}
-use mathlib.Core.Bool.{Bool, true, false, _&&_}
-use mathlib.Core.List.{List, []}
+use mathlib.Core.List.{List}
 use Prim.Native.Nat.{ℕ, suc, _+_, _-_, _<_}
-use lib.Dec.{leb}
 use lib.ListN.{length, getD, set}
 use Rattle.std.specs.shelf.Lists.{inserted, removed}
 use Rattle.std.specs.declared.option.Option.{Option}
@@ -15,12 +13,6 @@ use Rattle.routes.specs.Rows.{slot, count-in, room-in, routes, told}
 use Rattle.routes.specs.Searches.{Found, Missing}
 use Rattle.routes.specs.Gaps.{Opened, Closed}
 use Rattle.routes.specs.declared.edits.Full.{Full}
-
--- a row that has the room was made a list of no routes, by its two counts alone; one that has not is as it was
-abbrev pub Clear-says : (words stride : ℕ) (old new : List ℕ) (room : ℕ) → Bool → Type 0
-Clear-says words stride old new room true =
-    (routes words stride new ≡ []) × (room-in words stride new ≡ room) × (new ≡ set (set old 0 0) 1 room)
-Clear-says words stride old new room false = (leb (words + 2) stride && leb (slot stride room) (length old) ≡ false) × (new ≡ old)
 
 -- a route was added at a place: the count is one more, what stood there and behind it stands a stride further, and nothing else moved
 pub record Added (words stride : ℕ) (old new : List ℕ) (r : Route) (k : ℕ) : Type 0 where

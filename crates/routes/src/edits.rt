@@ -6,9 +6,8 @@ ghost use Rattle.prefix.specs.Words.{loaded};
 ghost use Rattle.prefix.specs.Routes.{route-of};
 ghost use Rattle.routes.specs.Rows.{slot, count-in, room-in, routes};
 ghost use Rattle.routes.specs.Gaps.{Opened, Closed, Written};
-ghost use Rattle.routes.specs.Changes.{Clear-says, Added, Replaced, Removed, Insert-says, Insert-keeps, Remove-says, Remove-keeps};
+ghost use Rattle.routes.specs.Changes.{Added, Replaced, Removed, Insert-says, Insert-keeps, Remove-says, Remove-keeps};
 use crate::rows::Extent;
-use crate::rows::has_room;
 use crate::rows::hop_at;
 use crate::rows::slot_at;
 use crate::searches::find;
@@ -18,18 +17,6 @@ use prefix::Prefix;
 // The list has no room for one more route.
 #[derive(Clone, Copy)]
 pub struct Full;
-
-// Makes a row a list of no routes with room for some, or says that the row is too short for them.
-pub fn clear<K: Key>(row: &mut [u32], stride: usize, room: u32) -> bool
-    ensures { λ r. ⌜ Clear-says (K·Key .words) stride (now (row .entry)) (now (row .exit)) room r ⌝ }
-{
-    if !has_room::<K>(row, stride, room as usize) {
-        return false;
-    }
-    row[0] = 0;
-    row[1] = room;
-    true
-}
 
 // Puts a route in its place, or in the place of the one with its prefix, whose hop is answered.
 pub fn insert<K: Key>(

@@ -9,7 +9,6 @@ mod scans;
 mod searches;
 
 pub use edits::Full;
-pub use edits::clear;
 pub use edits::insert;
 pub use edits::remove;
 pub use rows::Extent;

@@ -46,7 +46,7 @@ pub fn route<K: Key>(row: &[u32], stride: usize, k: usize) -> Option<(Prefix<K>,
 }
 
 // Whether a row is long enough for so many routes. The product is tested by its quotient, since it may pass what a number holds.
-pub(crate) fn has_room<K: Key>(row: &[u32], stride: usize, room: usize) -> bool
+fn has_room<K: Key>(row: &[u32], stride: usize, room: usize) -> bool
     ensures { λ r. ⌜ r ≡ (leb (K·Key .words + 2) stride && leb (slot stride room) (length (now (row .entry)))) ⌝ }
 {
     stride >= K::words() + 2 && row.len() >= 2 && room <= (row.len() - 2) / stride

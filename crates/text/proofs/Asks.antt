@@ -1,7 +1,7 @@
 -- Commands: the words of a line that are read in turn, for the proofs of the readers. Assumes nothing.
 use mathlib.Core.Path.{_≡_, refl, sym, ap, _∙_}
 use mathlib.Core.Bool.{Bool, true, false, not, cond}
-use mathlib.Core.List.{List, [], _∷_, _++_}
+use mathlib.Core.List.{List, [], _∷_}
 use mathlib.Core.Logic.{⊎-elim}
 use Prim.Native.Nat.{ℕ}
 use lib.Chars.{codes}
@@ -65,7 +65,7 @@ cond-none true = refl
 cond-none false = refl
 
 -- what a route is, once its four words are found
-abbrev pub routing : List ℕ → List ℕ → List ℕ → List ℕ → Option Command
+abbrev routing : List ℕ → List ℕ → List ℕ → List ℕ → Option Command
 routing address len to hop = cond (sameBytes to (codes "to")) (routed (both (dotted address) (decimal len)) (decimal hop)) None
 
 put-last : (a b t : List ℕ) (l : List (List ℕ)) → put (a ∷ b ∷ t ∷ l) ≡ cond (sameBytes t (codes "to")) (routed (both (dotted a) (decimal b)) (only decimal l)) None

@@ -1,31 +1,26 @@
 -- What is written is read as it was, for the laws. Assumes nothing.
 use mathlib.Core.Path.{_≡_, refl, sym, ap, _∙_}
-use mathlib.Core.Bool.{Bool, true, false, cond, _&&_}
 use mathlib.Core.List.{List, [], _∷_, _++_}
-use Prim.Native.Nat.{ℕ, zero, suc, _+_, _*_, _/_, _%_, _^_, _<_, _≤_}
+use Prim.Native.Nat.{ℕ, zero, suc, _+_, _*_, _/_, _%_, _^_, _<_}
 use native.Mathlib.Omega.{arith}
 use lib.Chars.{codes}
-use lib.Dec.{ltb, lit<}
-use lib.ListN.{length, getD}
+use lib.Dec.{lit<}
 use Rattle.std.specs.declared.option.Option.{Option}
-use Rattle.std.specs.declared.option.Option.the-variants.{Some, None}
+use Rattle.std.specs.declared.option.Option.the-variants.{Some}
 use Rattle.std.specs.Options.{mapped}
 use Rattle.std.specs.Pieces.{Lacks}
 use Rattle.std.specs.Text.{In}
 use Rattle.std.specs.Written.{decimal as figures}
-use Rattle.std.specs.shelf.Text.{allDigits, sameBytes}
 use Rattle.std.proofs.shelf.Decimals.{digits-decimal, value-decimal, decimal-some, length-decimal-le}
 use Rattle.std.proofs.shelf.Numerals.{not-in-digits}
 use Rattle.std.proofs.shelf.Ways.{tells}
-use Rattle.text.specs.declared.lines.Command.{Command}
 use Rattle.text.specs.declared.lines.Command.the-variants.{Table, Put, Away, Look, Beneath}
-use Rattle.text.specs.declared.lines.Line.{Line}
 use Rattle.text.specs.declared.lines.Line.the-variants.{Command as Asks}
-use Rattle.text.specs.Commands.{both, prefix, routed, put, asked, command, reads, said}
+use Rattle.text.specs.Commands.{both, prefix, routed, put, asked, reads}
 use Rattle.text.specs.Dots.{dots}
-use Rattle.text.specs.Fields.{onto, fields, only}
+use Rattle.text.specs.Fields.{fields, only}
 use Rattle.text.specs.Laws.{Dotted-round-trip, Command-round-trip}
-use Rattle.text.specs.Numerals.{value-on, digits, decimal, octet, joined, quad, dotted}
+use Rattle.text.specs.Numerals.{digits, decimal, octet, joined, quad, dotted}
 use Rattle.text.proofs.Cuts.{lacks-rest, fields-whole, fields-cut}
 use Rattle.text.proofs.Digits.{own, octet-is}
 
@@ -39,7 +34,7 @@ lacks-append c (x ∷ xs) ys h i (suc k) l e = lacks-append c xs ys (lacks-rest 
 figures-lack : (c n : ℕ) → (In 48 57 c → ⊥) → n < 2 ^ 64 → Lacks c (figures n)
 figures-lack c n h l = not-in-digits own (figures n) c (digits-decimal own n l) h
 
-pub decimal-back : (n : ℕ) → n < 2 ^ 64 → decimal (figures n) ≡ Some n
+decimal-back : (n : ℕ) → n < 2 ^ 64 → decimal (figures n) ≡ Some n
 unfolding decimal digits
 decimal-back n l =
     let d = digits-decimal own n l in
@@ -75,10 +70,7 @@ dotted-back x h =
     four-back (x / 16777216 % 256) (x / 65536 % 256) (x / 256 % 256) (x % 256) (omega arith) (omega arith) (omega arith) (omega arith)
     ∙ ap (λ (n : ℕ). Some n) (bytes-back x h)
 
--- a space behind a word
-space-cut : (xs ys : List ℕ) → Lacks 32 xs → fields 32 (xs ++ (32 ∷ ys)) ≡ xs ∷ fields 32 ys
-space-cut xs ys h = fields-cut 32 xs ys h
-
+-- what is written has no space, so it is one word
 figures-word : (n : ℕ) → n < 2 ^ 64 → Lacks 32 (figures n)
 figures-word n h = figures-lack 32 n (λ i. omega arith) h
 
@@ -98,7 +90,7 @@ dots-word x =
 
 -- a prefix that is written, and a route
 prefix-words : (bits len : ℕ) → len < 2 ^ 64 → fields 32 (dots bits ++ (32 ∷ figures len)) ≡ dots bits ∷ figures len ∷ []
-prefix-words bits len h = space-cut (dots bits) (figures len) (dots-word bits) ∙ ap (λ (l : List (List ℕ)). dots bits ∷ l) (fields-whole 32 (figures len) (figures-word len h))
+prefix-words bits len h = fields-cut 32 (dots bits) (figures len) (dots-word bits) ∙ ap (λ (l : List (List ℕ)). dots bits ∷ l) (fields-whole 32 (figures len) (figures-word len h))
 
 prefix-back : (bits len : ℕ) → bits < 2 ^ 32 → len < 2 ^ 64 → prefix (fields 32 (dots bits ++ (32 ∷ figures len))) ≡ Some (bits, len)
 unfolding prefix both
@@ -110,9 +102,9 @@ to-word ys = refl
 
 route-words : (bits len hop : ℕ) → len < 2 ^ 64 → hop < 2 ^ 64 → fields 32 (dots bits ++ (32 ∷ (figures len ++ (codes " to " ++ figures hop)))) ≡ dots bits ∷ figures len ∷ codes "to" ∷ figures hop ∷ []
 route-words bits len hop h i =
-    space-cut (dots bits) (figures len ++ (codes " to " ++ figures hop)) (dots-word bits)
+    fields-cut 32 (dots bits) (figures len ++ (codes " to " ++ figures hop)) (dots-word bits)
     ∙ ap (λ (l : List (List ℕ)). dots bits ∷ l)
-    (space-cut (figures len) (codes "to " ++ figures hop) (figures-word len h)
+    (fields-cut 32 (figures len) (codes "to " ++ figures hop) (figures-word len h)
     ∙ ap (λ (l : List (List ℕ)). figures len ∷ l)
     (to-word (figures hop) ∙ ap (λ (l : List (List ℕ)). codes "to" ∷ l) (fields-whole 32 (figures hop) (figures-word hop i))))
 

@@ -1,12 +1,11 @@
 -- The parts of a text: what `split_once` says of them, for the proofs of the readers. Assumes nothing.
-use mathlib.Core.Path.{_≡_, refl, sym, ap, subst, _∙_}
+use mathlib.Core.Path.{_≡_, refl, sym, ap, _∙_}
 use mathlib.Core.Bool.{Bool, true, false, cond}
 use mathlib.Core.List.{List, [], _∷_, _++_}
 use mathlib.Core.Logic.{⊎-elim}
 use Prim.Native.Nat.{ℕ, suc, _+_, _<_}
 use native.Mathlib.Omega.{arith}
-use lib.Dec.{eqb, lit<}
-use lib.ListN.{length, getD}
+use lib.Dec.{eqb}
 use denote.Ref.{RefT}
 use Rattle.std.specs.declared.option.Option.{Option}
 use Rattle.std.specs.declared.option.Option.the-variants.{Some, None}
@@ -48,7 +47,7 @@ pub cut-some : (c : ℕ) (bs : List ℕ) (x y : RefT (List ℕ)) → SplitAt c b
 cut-some c bs x y h small = let p = split-parts c bs (Some (x, y)) h small in ap (fields c) (p .0) ∙ fields-cut c (x .now) (y .now) (p .1)
 
 -- there is a first part
-abbrev pub Parts : List (List ℕ) → Type 0
+abbrev Parts : List (List ℕ) → Type 0
 Parts l = (x : List ℕ) × (xs : List (List ℕ)) × (l ≡ x ∷ xs)
 
 onto-some : (b : ℕ) (l : List (List ℕ)) → Parts (onto b l)
@@ -59,7 +58,7 @@ some-by : (t : Bool) (b : ℕ) (l : List (List ℕ)) → Parts (cond t ([] ∷ l
 some-by true b l = ([], l, refl)
 some-by false b l = onto-some b l
 
-pub fields-some : (c : ℕ) (bs : List ℕ) → Parts (fields c bs)
+fields-some : (c : ℕ) (bs : List ℕ) → Parts (fields c bs)
 unfolding fields
 fields-some c [] = ([], [], refl)
 fields-some c (b ∷ bs) = some-by (eqb b c) b (fields c bs)

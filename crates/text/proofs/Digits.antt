@@ -1,14 +1,12 @@
 -- Decimal digits: what `parse` says of them, for the proofs of the readers. Assumes nothing.
-use mathlib.Core.Path.{_≡_, refl, sym, ap, subst, _∙_}
-use mathlib.Core.Bool.{Bool, true, false, cond, _&&_}
+use mathlib.Core.Path.{_≡_, refl, sym}
+use mathlib.Core.Bool.{true, false}
 use mathlib.Core.List.{List, [], _∷_, _++_}
-use mathlib.Core.Logic.{_⊎_, inl, inr}
-use Prim.Native.Nat.{ℕ, _+_, _-_, _*_, _^_, _<_, _≤_}
+use mathlib.Core.Logic.{_⊎_}
+use Prim.Native.Nat.{ℕ, _+_, _-_, _^_, _<_, _≤_}
 use native.Mathlib.Omega.{arith}
 use borrow.Author.Needs.{needs}
-use lib.Dec.{ltb, leb, eqb}
 use lib.ListN.{length, getD}
-use Rattle.std.specs.declared.option.Option.{Option}
 use Rattle.std.specs.declared.option.Option.the-variants.{Some, None}
 use Rattle.std.specs.declared.result.Result.{Result}
 use Rattle.std.specs.declared.result.Result.the-variants.{Ok, Err}
@@ -18,7 +16,7 @@ use Rattle.std.specs.Results.{okPart}
 use Rattle.std.specs.shelf.Text.{allDigits}
 use Rattle.std.proofs.shelf.Numerals.{Numerals, numerals-by-fold, tells-allDigits, parse-plain}
 use Rattle.std.proofs.shelf.Ways.{tells}
-use Rattle.text.specs.Numerals.{value-on, digits, numeral, decimal, octet}
+use Rattle.text.specs.Numerals.{value-on, digits, decimal, octet}
 
 -- the definitions of `specs/Numerals` are the shelf's numerals
 pub own : Numerals (λ ds. allDigits ds ≡ true) (value-on 0)
@@ -26,7 +24,7 @@ unfolding value-on
 own = numerals-by-fold _ tells-allDigits value-on (search needs)
 
 -- a text with a byte that is no digit is no numeral
-pub digits-none : (xs : List ℕ) (c : ℕ) (ys : List ℕ) → allDigits (c ∷ []) ≡ false → allDigits (xs ++ (c ∷ ys)) ≡ false
+digits-none : (xs : List ℕ) (c : ℕ) (ys : List ℕ) → allDigits (c ∷ []) ≡ false → allDigits (xs ++ (c ∷ ys)) ≡ false
 digits-none [] c ys h = grind (arith, tells)
 digits-none (x ∷ xs) c ys h = let ih = digits-none xs c ys h in grind (arith, tells)
 

@@ -3,7 +3,7 @@ use mathlib.Core.Path.{_≡_, refl, sym, ap, _∙_}
 use mathlib.Core.Bool.{Bool, true, false, _&&_}
 use mathlib.Core.List.{List, [], _∷_, _++_}
 use mathlib.Core.Logic.{⊎-elim}
-use Prim.Native.Nat.{ℕ, _+_, _*_}
+use Prim.Native.Nat.{ℕ, _+_}
 use native.Mathlib.Omega.{arith}
 use lib.Dec.{lit<}
 use denote.Ref.{RefT}
@@ -12,7 +12,6 @@ use Rattle.std.specs.declared.option.Option.the-variants.{Some, None}
 use Rattle.std.specs.shelf.Text.{allDigits}
 use Rattle.std.proofs.shelf.Patterns.{SplitAt}
 use Rattle.std.proofs.shelf.Tests.{and-cases, cases-eq}
-use Rattle.std.proofs.shelf.Ways.{tells}
 use Rattle.text.specs.Fields.{onto, fields, only}
 use Rattle.text.specs.Numerals.{octet, joined, quad, dotted}
 use Rattle.text.proofs.Cuts.{only-is, fields-past, fields-at, cut-none, cut-some}

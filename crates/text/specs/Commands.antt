@@ -59,7 +59,7 @@ abbrev pub command : List (List ℕ) → Option Command
 command [] = None
 command (verb ∷ rest) = asked verb rest
 
--- a line: nothing, a remark that begins with `#`, or words with one space between each two
+-- a line: nothing, a remark that begins with `#` (35), or words with one space (32) between each two
 unfoldable pub reads : List ℕ → Option Line
 reads [] = Some Blank
 reads (b ∷ bs) = cond (eqb b 35) (Some Blank) (mapped Asks (command (fields 32 (b ∷ bs))))

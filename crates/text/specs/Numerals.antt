@@ -47,6 +47,6 @@ quad (a ∷ b ∷ c ∷ []) = None
 quad (a ∷ b ∷ c ∷ d ∷ []) = joined (octet a) (octet b) (octet c) (octet d)
 quad (a ∷ b ∷ c ∷ d ∷ e ∷ more) = None
 
--- a number of 32 bits, as four parts with a dot between each two
+-- a number of 32 bits, as four parts with a dot (46) between each two
 unfoldable pub dotted : List ℕ → Option ℕ
 dotted bs = quad (fields 46 bs)

@@ -62,7 +62,7 @@ pub fn read(line: &str) -> Option<Line>
     Some(Line::Command(asked(line)?))
 }
 
-// The command of a line, by its first word.
+// The command of a line, by its first word. 32 is the space.
 fn asked(line: &str) -> Option<Command>
     ensures { λ r. ⌜ r ≡ command (fields 32 (now (line .entry))) ⌝ }
 {

@@ -1,7 +1,7 @@
 -- `asked`: a command by its first word, for the check.
-use mathlib.Core.Path.{_≡_, refl, sym, ap, _∙_}
+use mathlib.Core.Path.{sym, ap, _∙_}
 use Rattle.std.specs.Options.{mapped}
-use Rattle.text.specs.declared.lines.Command.the-variants.{Table, Put, Away, Look, Beneath}
+use Rattle.text.specs.declared.lines.Command.the-variants.{Table, Away, Look, Beneath}
 use Rattle.text.proofs.Asks.{command-none, table-is, put-is, away-is, look-is, beneath-is, other-is}
 use Rattle.text.proofs.lines.asked.Needs as need
 

@@ -1,5 +1,5 @@
 -- `prefix`: an address and a length, for the check.
-use mathlib.Core.Path.{_≡_, refl, sym, _∙_}
+use mathlib.Core.Path.{_≡_, _∙_}
 use Rattle.text.specs.Commands.{prefix, both}
 use Rattle.text.specs.Fields.{fields}
 use Rattle.text.specs.Numerals.{decimal, dotted}

@@ -1,7 +1,5 @@
 -- `read`: lines that are passed over, and commands, for the check.
-use mathlib.Core.Path.{_≡_, refl, sym, ap, _∙_}
-use mathlib.Core.Bool.{true}
-use native.Mathlib.Omega.{arith}
+use mathlib.Core.Path.{_≡_, sym, ap, _∙_}
 use lib.Dec.{lit<}
 use lib.ListN.{length}
 use Rattle.std.specs.Options.{mapped}

@@ -1,5 +1,5 @@
 -- `decimal`: what `parse` reads of a text with no `+` in front, for the check.
-use mathlib.Core.Path.{_≡_, refl, sym, _∙_}
+use mathlib.Core.Path.{sym, _∙_}
 use lib.Dec.{lit<}
 use Rattle.std.proofs.shelf.Patterns.{starts-char}
 use Rattle.std.proofs.shelf.Ways.{not-from-decides}

@@ -1,5 +1,5 @@
 -- `octet`: what `decimal` reads, within the bounds of a part, for the check.
-use mathlib.Core.Path.{_≡_, refl, sym, _∙_}
+use mathlib.Core.Path.{_∙_}
 use Rattle.text.proofs.Digits.{octet-none, octet-wide, octet-is}
 use Rattle.text.proofs.numerals.octet.Needs as need
 

@@ -1,0 +1,3 @@
+-- The definitions of the crate: a table's row and when it is right, and what its entries answer.
+pub mod Right
+pub mod Answers

@@ -1,0 +1,12 @@
+// The whole table in one lent row: the ordered route list, the default and the trie. docs/TABLE.md has the row's format, and specs/Right.antt says when a row is right.
+mod entries;
+mod laws;
+mod makes;
+mod parts;
+
+pub use entries::Done;
+pub use entries::look;
+pub use laws::right_means_holds;
+pub use makes::Misfit;
+pub use makes::make_empty;
+pub use makes::row_length;
