@@ -53,7 +53,8 @@ pub trait Key: Copy + Drop {
     // The first `len` bits, as a number.
     fn first(self, len: u32) -> Self
         requires { ⌜ len ≤ width words ⌝ }
-        ensures { λ r. ⌜ num r ≡ first (width words) len (num self) ⌝ };
+        ensures value { λ r. ⌜ num r ≡ first (width words) len (num self) ⌝ }
+        ensures below { λ r. ⌜ num r < 2 ^ len ⌝ };
 
     // The key that begins with this number of `len` bits, and has only zeros behind.
     fn placed(self, len: u32) -> Self

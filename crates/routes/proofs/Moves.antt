@@ -262,3 +262,17 @@ replaced words stride old new k r less bits len is =
       room = c .room;
       row = is;
     }
+
+-- rows that are alike as far as there is room for routes have the same list
+pub same-front : (words stride : ℕ) (old new : List ℕ) → length new ≡ length old → ((i : ℕ) → i < slot stride (getD old 1 0) → getD new i 0 ≡ getD old i 0) → routes words stride new ≡ routes words stride old
+same-front words stride old new long same =
+    let zeroth : getD new 0 0 ≡ getD old 0 0 = same 0 (omega arith) in
+    let one : getD new 1 0 ≡ getD old 1 0 = same 1 (omega arith) in
+    let count : count-in words stride new ≡ count-in words stride old = rw (one, zeroth, long) in
+    by-places words stride new (routes words stride old) (length-routes words stride old ∙ sym count)
+    (λ j h.
+    let less : j < count-in words stride old = omega arith in
+    let l = with-room words stride old j (omega (arith, count-room words stride old)) in
+    let wide = l .wide in
+    let below : j < getD old 1 0 = omega (arith, l .fits, count-is words stride old l) in
+    getD-routes words stride old j less ∙ sym (route-same words stride j j old new (λ i few. same (slot stride j + i) (omega (arith, next-slot stride j (getD old 1 0) below)))))

@@ -4,6 +4,8 @@ use mathlib.Core.Bool.{true, false}
 use mathlib.Core.List.{List}
 use Prim.Native.Nat.{ℕ, suc, _-_, _≤_, _<_}
 use lib.ListN.{length, getD}
+use Rattle.std.specs.declared.option.Option.{Option}
+use Rattle.std.specs.declared.option.Option.the-variants.{Some, None}
 use Rattle.std.specs.declared.result.Result.{Result}
 use Rattle.std.specs.declared.result.Result.the-variants.{Ok, Err}
 use Rattle.prefix.specs.Routes.{Route, route-of, before, no-route, same-prefix, held, In-order}
@@ -31,3 +33,8 @@ pub record Missing (rs : List Route) (bits len k : ℕ) : Type 0 where
 abbrev pub Search-says : List Route → (bits len : ℕ) → Result ℕ ℕ → Type 0
 Search-says rs bits len (Ok k) = Found rs bits len k
 Search-says rs bits len (Err k) = Missing rs bits len k
+
+-- a hop is that of a route with the prefix; there is none where the prefix is missing
+abbrev pub Get-says : List Route → (bits len : ℕ) → Option ℕ → Type 0
+Get-says rs bits len (Some hop) = (k : ℕ) × Found rs bits len k × (getD rs k no-route .hop ≡ hop)
+Get-says rs bits len None = (k : ℕ) × Missing rs bits len k

@@ -15,4 +15,5 @@ pub use rows::Extent;
 pub use rows::route;
 pub use scans::scan;
 pub use searches::find;
+pub use searches::get;
 pub use searches::lower_bound;

@@ -1,8 +1,10 @@
 // Where a prefix stands in a list, by halving.
 ghost use mathlib.Core.Path.{_≡_};
-ghost use Rattle.routes.specs.Rows.{routes};
-ghost use Rattle.routes.specs.Searches.{Boundary, Search-says};
+ghost use Rattle.prefix.specs.Routes.{In-order, held};
+ghost use Rattle.routes.specs.Rows.{routes, told};
+ghost use Rattle.routes.specs.Searches.{Boundary, Search-says, Get-says};
 use crate::rows::Extent;
+use crate::rows::hop_at;
 use crate::rows::prefix_at;
 use prefix::Key;
 use prefix::Prefix;
@@ -33,4 +35,15 @@ pub fn find<K: Key>(row: &[u32], stride: usize, prefix: Prefix<K>) -> Result<usi
         return Ok(k);
     }
     Err(k)
+}
+
+// The hop of the route with just this prefix.
+pub fn get<K: Key>(row: &[u32], stride: usize, prefix: Prefix<K>) -> Option<u32>
+    ensures says { λ r. ⌜ Get-says (routes (K·Key .words) stride (now (row .entry))) (K·Key .num (prefix .bits)) (prefix .len) r ⌝ }
+    ensures held { λ r. ⌜ (In-order (routes (K·Key .words) stride (now (row .entry))) → told r ≡ held (prefix .len) (K·Key .num (prefix .bits)) (routes (K·Key .words) stride (now (row .entry)))) ⌝ }
+{
+    match find(row, stride, prefix) {
+        Ok(k) => Some(hop_at::<K>(row, stride, k)),
+        Err(_) => None,
+    }
 }

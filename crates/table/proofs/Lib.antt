@@ -1,3 +1,6 @@
 -- The lemmas of the crate, by subject.
 pub mod Means
 pub mod Fresh
+pub mod Cells
+pub mod Lent
+pub mod Following

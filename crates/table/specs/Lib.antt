@@ -1,3 +1,5 @@
 -- The definitions of the crate: a table's row and when it is right, and what its entries answer.
 pub mod Right
 pub mod Answers
+pub mod Words
+pub mod Follows

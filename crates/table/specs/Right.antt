@@ -6,7 +6,7 @@ use Prim.Native.Nat.{ℕ, _+_, _*_, _^_, _≤_, _<_}
 use lib.ListN.{length, getD, drop}
 use Rattle.prefix.specs.Words.{width}
 use Rattle.prefix.specs.Routes.{Route, good, In-order}
-use Rattle.prefix.specs.Map.{hops}
+use Rattle.prefix.specs.Map.{Hops, hops}
 use Rattle.routes.specs.Rows.{slot, routes}
 use Rattle.trie.specs.Shape.{Trie-of}
 
@@ -46,13 +46,17 @@ nodes words row = getD row (default-at words (room row) + 1) 0
 abbrev pub trie : ℕ → List ℕ → List ℕ
 trie words row = drop (default-at words (room row) + 2) row
 
--- a table is right: its parts have their lengths, its list is good and in order, and the default and the trie are those of the list
-pub record Right (words : ℕ) (row : List ℕ) : Type 0 where
+-- a row has the parts of a table, its list is good and in order, and its default and its trie are those of the map m. Between a change of the list and that of the trie m is the map of before
+pub record Mapped (words : ℕ) (row : List ℕ) (m : Hops) : Type 0 where
   pub long : length row ≡ row-length words (room row)
   -- a node's number is one of the row's, so there are fewer than 2 ^ 32
   pub small : most-nodes words (room row) < 2 ^ 32
   pub fewer : getD row 0 0 ≤ room row
   pub proper : good (width words) (listed words row) ≡ true
   pub order : In-order (listed words row)
-  pub default-is : default words row ≡ hops (width words) (listed words row) 0 0
-  pub trie-is : Trie-of (width words) (hops (width words) (listed words row)) (trie words row) (nodes words row)
+  pub default-is : default words row ≡ m 0 0
+  pub trie-is : Trie-of (width words) m (trie words row) (nodes words row)
+
+-- a table is right: its default and its trie are those of its list
+abbrev pub Right : (words : ℕ) (row : List ℕ) → Type 0
+Right words row = Mapped words row (hops (width words) (listed words row))

@@ -1,8 +1,11 @@
 // The whole table in one lent row: the ordered route list, the default and the trie. docs/TABLE.md has the row's format, and specs/Right.antt says when a row is right.
 mod entries;
+mod follows;
 mod laws;
+mod lends;
 mod makes;
 mod parts;
+mod words;
 
 pub use entries::Done;
 pub use entries::look;

@@ -1,4 +1,4 @@
--- How many nodes a trie of a list has at most: a node is told by a route that needs it and by its depth. For the theorems. Assumes nothing.
+-- How many nodes a trie of a list has at most: a node is told by a route that needs it and by its depth. For the theorems, and for crates that change tries. Assumes nothing.
 use mathlib.Core.Path.{_≡_, refl, sym, ap, _∙_}
 use mathlib.Core.Bool.{Bool, true, false, cond, _&&_}
 use mathlib.Core.List.{List, [], _∷_}
@@ -63,8 +63,9 @@ place-of len bits (r ∷ rs) n = go (eqb (r .len) len && eqb (r .bits) bits) ref
         let y = rest (λ z. n (rw e z)) in
         record { place = suc (y .place); below = omega (arith, y .below); same-len = y .same-len; same-bits = y .same-bits }
 
-module _ {w : ℕ} {V S G : ℕ → ℕ → ℕ} {nodes : ℕ} {depth path : ℕ → ℕ} (rs : List Route) (g : ℕ) (e : w ≡ 4 * (g + 1))
-    (t : Shape w V (Deeper (hops w rs)) S G (λ i. i < nodes) depth path) where
+-- a trie of places that the list needs, in the middle of a change too
+module _ {w : ℕ} {V S G : ℕ → ℕ → ℕ} {P : ℕ → ℕ → Type 0} {nodes : ℕ} {depth path : ℕ → ℕ} (rs : List Route) (g : ℕ) (e : w ≡ 4 * (g + 1))
+    (needed : (d c : ℕ) → P d c → Deeper (hops w rs) d c) (t : Shape w V P S G (λ i. i < nodes) depth path) where
   -- node i + 1 is not the root, so its depth is one of g
   below-root : (i : ℕ) → i < nodes - 1 → (0 < depth (i + 1)) × (depth (i + 1) - 1 < g)
   below-root i a =
@@ -74,7 +75,7 @@ module _ {w : ℕ} {V S G : ℕ → ℕ → ℕ} {nodes : ℕ} {depth path : ℕ
 
   -- the prefix for which a node is there
   need : (i : ℕ) → i < nodes - 1 → Deeper (hops w rs) (depth (i + 1)) (path (i + 1))
-  need i a = t .used (i + 1) (omega arith) (omega arith)
+  need i a = needed _ _ (t .used (i + 1) (omega arith) (omega arith))
 
   -- and its route
   route : (i : ℕ) (a : i < nodes - 1) → Place (need i a .len) (need i a .bits * 2 ^ (w - need i a .len)) rs

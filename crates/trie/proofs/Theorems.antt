@@ -17,13 +17,13 @@ pub node-bound : Node-bound
 node-bound zero rs t nodes h = absurd (omega (arith, h .shape .high 0 (h .shape .root)))
 node-bound (suc g) rs t nodes h =
     let e : suc g - 1 ≡ g = omega arith in
-    rw e (room rs g (omega arith) (h .shape))
+    rw e (room rs g (omega arith) (λ d c p. p) (h .shape))
 
 pub room-enough : Room-enough
 room-enough words n rs t nodes some fits h =
     let g : ℕ = 8 * words - 1 in
     let e : 8 * words ≡ g + 1 = omega arith in
-    let few = room rs g (omega arith) (h .shape) in
+    let few = room rs g (omega arith) (λ d c p. p) (h .shape) in
     let more = mul-le-mul-left g fits in
     rw e (omega (arith, add-mul g 1 n))
 
