@@ -27,7 +27,7 @@ put-set (s ∷ ss) r (suc k) h none here =
     let t : same-prefix r s ≡ false = grind (arith, tells) in
     rw (t, put-set ss r k (omega arith) (λ j l. none (suc j) (omega arith)) here)
 
-put-absent : (rs : List Route) (r : Route) → ((j : ℕ) → j < length rs → same-prefix (getD rs j no-route) r ≡ false) → put r rs ≡ rs ++ r ∷ []
+pub put-absent : (rs : List Route) (r : Route) → ((j : ℕ) → j < length rs → same-prefix (getD rs j no-route) r ≡ false) → put r rs ≡ rs ++ r ∷ []
 unfolding put same-prefix
 put-absent [] r none = refl
 put-absent (s ∷ ss) r none =

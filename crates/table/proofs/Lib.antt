@@ -4,3 +4,5 @@ pub mod Fresh
 pub mod Cells
 pub mod Lent
 pub mod Following
+pub mod Changing
+pub mod Refusals

@@ -3,3 +3,5 @@ pub mod Right
 pub mod Answers
 pub mod Words
 pub mod Follows
+pub mod Changes
+pub mod Entries

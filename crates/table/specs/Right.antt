@@ -60,3 +60,11 @@ pub record Mapped (words : ℕ) (row : List ℕ) (m : Hops) : Type 0 where
 -- a table is right: its default and its trie are those of its list
 abbrev pub Right : (words : ℕ) (row : List ℕ) → Type 0
 Right words row = Mapped words row (hops (width words) (listed words row))
+
+-- a row has the parts of a table, and its list is good and in order, whatever its default and its nodes hold: enough to make the trie anew
+pub record Sound (words : ℕ) (row : List ℕ) : Type 0 where
+  pub long : length row ≡ row-length words (room row)
+  pub small : most-nodes words (room row) < 2 ^ 32
+  pub fewer : getD row 0 0 ≤ room row
+  pub proper : good (width words) (listed words row) ≡ true
+  pub order : In-order (listed words row)

@@ -1,9 +1,14 @@
 // The entries: thin functions on a lent row, for keys of 32 bits.
 ghost use mathlib.Core.Path.{_≡_};
-ghost use Rattle.prefix.specs.Routes.{answer};
+ghost use mathlib.Core.Bool.{true, false};
+ghost use Rattle.std.specs.Options.{Cases as BySome};
+ghost use Rattle.prefix.specs.Routes.{answer, route-of, good-prefix};
 ghost use Rattle.table.specs.Right.{Right, listed};
 ghost use Rattle.table.specs.Answers.{told};
+ghost use Rattle.table.specs.Entries.{refusal, Put-entry-says};
+use crate::changes::put;
 use crate::parts::lookup;
+use prefix::Prefix;
 use prefix::U32Key;
 
 // What an entry answers.
@@ -17,11 +22,48 @@ pub enum Done {
     Refused(u64),
 }
 
+// One change of a table.
+#[derive(Clone, Copy)]
+pub enum Change {
+    Put { bits: u32, len: u64, hop: u64 },
+    Away { bits: u32, len: u64 },
+}
+
+// The largest hop that there is.
+const LAST_HOP: u64 = 65_535;
+
 // Where the longest route that matches the address sends it. In a right table the trie answers as the list does.
 pub fn look(table: &[u32], x: u32) -> Done
     ensures { λ r. ⌜ (Right 1 (now (table .entry)) → r ≡ told (answer 32 (listed 1 (now (table .entry))) x)) ⌝ }
 {
     found(lookup(table, x))
+}
+
+// Puts a route. What is no prefix is refusal 1, a hop above 65,535 is refusal 2.
+pub fn put_entry(table: &mut [u32], bits: u32, long: u64, to: u64) -> Done
+    ensures { λ r. ⌜ Put-entry-says (refusal bits long to) (now (table .entry)) (now (table .exit)) (route-of bits long to) r ⌝ }
+{
+    let Some(prefix) = good_prefix(bits, long) else {
+        return Done::Refused(1);
+    };
+    if to > LAST_HOP {
+        return Done::Refused(2);
+    }
+    match put(table, prefix, to as u32) {
+        Ok(()) => Done::Ready,
+        Err(_) => Done::Full,
+    }
+}
+
+// The prefix that bits and a length are, if they are one.
+fn good_prefix(bits: u32, len: u64) -> Option<Prefix<u32>>
+    ensures { λ r. ⌜ BySome r (good-prefix 32 len bits ≡ false) (λ p. (good-prefix 32 len bits ≡ true) × (p .bits ≡ bits) × (p .len ≡ len)) ⌝ }
+{
+    if len > 32 {
+        return None;
+    }
+    let prefix = Prefix { bits, len: len as u32 };
+    if prefix.is_good() { Some(prefix) } else { None }
 }
 
 fn found(answer: u32) -> Done
