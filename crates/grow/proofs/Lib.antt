@@ -1,5 +1,5 @@
 -- The lemmas of the crate, by subject.
-pub mod Lefts
+pub mod Ahead
 pub mod Walks
 pub mod Rooms
 pub mod Tables

@@ -1,21 +1,21 @@
 -- The words of a prefix's cells are written: the last step of an insertion, and the first of a removal. For crates that put and take away prefixes. Assumes nothing.
-use mathlib.Core.Path.{_≡_, refl, sym, ap, _∙_}
+use mathlib.Core.Path.{_≡_, sym, ap, _∙_}
 use mathlib.Core.Bool.{true}
 use mathlib.Core.List.{List}
 use mathlib.Core.Logic.{_≢_}
-use Prim.Native.Nat.{ℕ, _+_, _-_, _*_, _/_, _^_, _<_, _≤_}
+use Prim.Native.Nat.{ℕ, _+_, _*_, _<_, _≤_}
 use native.Mathlib.Omega.{arith}
 use lib.Dec.{leb}
-use lib.ListN.{length, getD}
+use lib.ListN.{length}
 use Rattle.std.proofs.shelf.Tests.{le-leb}
 use Rattle.prefix.specs.Map.{Hops}
 use Rattle.trie.specs.Nodes.{said, goes}
 use Rattle.trie.specs.Shape.{local, Deeper, Held, Trie-of}
-use Rattle.trie.specs.Places.{Way, Along, Covers, Apart, Walk}
+use Rattle.trie.specs.Places.{Along, Covers, Apart, Walk}
 use Rattle.trie.proofs.Shapes.{carry}
 use Rattle.trie.proofs.Places.{covers-way}
 use Rattle.trie.proofs.Updates.{Renewed, insert-words, remove-words}
-use Rattle.grow.specs.Cells.{bit, path-of, Cells, Says, Written}
+use Rattle.grow.specs.Cells.{path-of, Cells, Says, Written}
 
 -- the words of the covered cells of the last node of the way are written: so all cells that the prefix covers say what the new map says
 renewal :
@@ -59,15 +59,27 @@ put-done {m = m} m′ {l} {q} {e} h apart n short cells says r =
       shape = insert-words m m′ l q e apart (h .held .shape) (renewal m′ h short cells says r) n (h .way .long) short;
     }
 
--- a prefix is to be taken away: the words are written, and the way is left to be cut
+-- a prefix is to be taken away: the words are written, and the way is left to be cut, from its last node up
+pub walk-renewed :
+    {w : ℕ} {m : Hops} (m′ : Hops) {l q e count node mask : ℕ} {t t′ words : List ℕ} → Walk w (local m) (Deeper m) l q e t count node
+    → Apart m m′ l q → m l q ≢ 0 → l ≤ 4 * e + 4 → Cells l q e mask → Says m′ l q e mask words → Written node mask words t t′
+    → Walk w (local m′) (Along m′ l q e) l q e t′ count node
+walk-renewed {m = m} m′ {l} {q} {e} h apart n short cells says r =
+    record {
+      held =
+          record {
+            depth = h .held .depth;
+            path = h .held .path;
+            fits = omega (arith, h .held .fits, r .long);
+            shape = remove-words m m′ l q e apart (h .held .shape) (renewal m′ h short cells says r) n (h .way .long) short;
+          };
+      here = h .here;
+      deep = h .deep;
+      way = h .way;
+    }
+
 pub words-renewed :
     {w : ℕ} {m : Hops} (m′ : Hops) {l q e count node mask : ℕ} {t t′ words : List ℕ} → Walk w (local m) (Deeper m) l q e t count node
     → Apart m m′ l q → m l q ≢ 0 → l ≤ 4 * e + 4 → Cells l q e mask → Says m′ l q e mask words → Written node mask words t t′
     → Held w (local m′) (Along m′ l q e) t′ count
-words-renewed {m = m} m′ {l} {q} {e} h apart n short cells says r =
-    record {
-      depth = h .held .depth;
-      path = h .held .path;
-      fits = omega (arith, h .held .fits, r .long);
-      shape = remove-words m m′ l q e apart (h .held .shape) (renewal m′ h short cells says r) n (h .way .long) short;
-    }
+words-renewed m′ h apart n short cells says r = walk-renewed m′ h apart n short cells says r .held

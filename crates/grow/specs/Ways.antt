@@ -17,12 +17,12 @@ depth-of l = (l - 1) / 4
 abbrev pub Way-made : (w : ℕ) (m : Hops) (l q : ℕ) (t : List ℕ) (count node : ℕ) → Type 0
 Way-made w m l q t count node = Walk w (local m) (Along m l q (depth-of l)) l q (depth-of l) t count node
 
--- the row is the trie of the map, and node the last of the way to a prefix that the map has
+-- the row is the trie of the map, and node the last of the way to the prefix
 abbrev pub Way-found : (w : ℕ) (m : Hops) (l q : ℕ) (t : List ℕ) (count node : ℕ) → Type 0
 Way-found w m l q t count node = Walk w (local m) (Deeper m) l q (depth-of l) t count node
 
--- at depth d of its way, some bits of the prefix are left: the first len of rest
-pub record Left (w l q d len rest : ℕ) : Type 0 where
+-- at depth d of its way, some bits of the prefix are still ahead: the first len of rest
+pub record Ahead (w l q d len rest : ℕ) : Type 0 where
   pub some : 0 < len
   pub whole : 4 * d + len ≡ l
   pub short : l ≤ w

@@ -1,15 +1,13 @@
 // The way to a prefix that the trie has: its last node is found, and nothing is made.
-ghost use mathlib.Core.Path.{_≡_};
 ghost use mathlib.Core.Logic.{_≢_};
-ghost use Prim.Native.Nat.{ℕ, _+_, _-_, _*_, _/_, _^_, _<_, _≤_};
-ghost use lib.ListN.{length, getD};
+ghost use Prim.Native.Nat.{ℕ, _+_, _-_, _*_, _^_, _<_, _≤_};
 ghost use Rattle.std.specs.Options.{Cases};
 ghost use Rattle.prefix.specs.Words.{width};
 ghost use Rattle.prefix.specs.Routes.{first};
 ghost use Rattle.prefix.specs.Map.{Hops};
 ghost use Rattle.trie.specs.Shape.{local, Deeper, Trie-of};
 ghost use Rattle.trie.specs.Places.{Walk};
-ghost use Rattle.grow.specs.Ways.{Way-found, Left};
+ghost use Rattle.grow.specs.Ways.{Way-found, Ahead};
 use prefix::Key;
 use prefix::Prefix;
 
@@ -28,7 +26,7 @@ pub fn way_end<K: Key>(nodes: &[u32], count: u32, prefix: Prefix<K>) -> Option<u
 fn follow<K: Key>(nodes: &[u32], count: u32, node: u32, rest: K, len: u32) -> Option<u32>
     ensures small { λ _. ⌜ K·Key .num rest < 2 ^ width (K·Key .words) ⌝ }
     ensures below { λ r. ⌜ (node < count → Cases r (Unit {0}) (λ n. n < count)) ⌝ }
-    ensures end { λ r. ⌜ ((m : Hops) (l q d : ℕ) → Left (width (K·Key .words)) l q d len (K·Key .num rest) → Walk (width (K·Key .words)) (local m) (Deeper m) l q d (now (nodes .entry)) count node → m l q ≢ 0 → Cases r ⊥ (λ n. Way-found (width (K·Key .words)) m l q (now (nodes .entry)) count n)) ⌝ }
+    ensures end { λ r. ⌜ ((m : Hops) (l q d : ℕ) → Ahead (width (K·Key .words)) l q d len (K·Key .num rest) → Walk (width (K·Key .words)) (local m) (Deeper m) l q d (now (nodes .entry)) count node → m l q ≢ 0 → Cases r ⊥ (λ n. Way-found (width (K·Key .words)) m l q (now (nodes .entry)) count n)) ⌝ }
 {
     let nibble = rest.nibble();
     if len <= 4 {

@@ -1,9 +1,9 @@
-// The way to a prefix: from node 0 down by the prefix's nibbles to the last node in which it has bits, where its cells are. The nodes that are missing are made, or the way ends at the first that is.
+// The way to a prefix: from node 0 down by the prefix's nibbles to the last node in which it has bits, where its cells are. Only the nodes that are missing are made.
 ghost use mathlib.Core.Path.{_≡_};
 ghost use mathlib.Core.Bool.{true};
 ghost use mathlib.Core.List.{List};
 ghost use mathlib.Core.Logic.{_≢_};
-ghost use Prim.Native.Nat.{ℕ, _+_, _-_, _*_, _/_, _%_, _^_, _<_, _≤_};
+ghost use Prim.Native.Nat.{ℕ, _+_, _-_, _*_, _^_, _<_, _≤_};
 ghost use lib.ListN.{length, getD};
 ghost use Rattle.std.specs.Options.{isSome, Cases};
 ghost use Rattle.prefix.specs.Words.{width};
@@ -11,7 +11,7 @@ ghost use Rattle.prefix.specs.Routes.{Route, first};
 ghost use Rattle.prefix.specs.Map.{Hops, hops};
 ghost use Rattle.trie.specs.Shape.{local, Trie-of};
 ghost use Rattle.trie.specs.Places.{step, Along, Apart, Walk};
-ghost use Rattle.grow.specs.Ways.{Way-made, Left, Linked, Enough};
+ghost use Rattle.grow.specs.Ways.{Way-made, Ahead, Linked, Enough};
 use crate::nodes::clear_node;
 use crate::nodes::leave_hint;
 use prefix::Key;
@@ -55,8 +55,8 @@ fn descend<K: Key>(
     len: u32,
 ) -> Option<Place>
     ensures small { λ _. ⌜ K·Key .num rest < 2 ^ width (K·Key .words) ⌝ }
-    ensures way { λ r. ⌜ ((m : Hops) (l q d : ℕ) → Left (width (K·Key .words)) l q d len (K·Key .num rest) → Walk (width (K·Key .words)) (local m) (Along m l q d) l q d (now (nodes .entry)) (place .count) (place .node) → Cases r (Unit {0}) (λ p. Way-made (width (K·Key .words)) m l q (now (nodes .exit)) (p .count) (p .node))) ⌝ }
-    ensures enough { λ r. ⌜ ((m : Hops) (rs : List Route) (l q d : ℕ) → Left (width (K·Key .words)) l q d len (K·Key .num rest) → Walk (width (K·Key .words)) (local m) (Along m l q d) l q d (now (nodes .entry)) (place .count) (place .node) → Apart m (hops (width (K·Key .words)) rs) l q → hops (width (K·Key .words)) rs l q ≢ 0 → Enough (K·Key .words) rs (length (now (nodes .entry))) → isSome r ≡ true) ⌝ }
+    ensures way { λ r. ⌜ ((m : Hops) (l q d : ℕ) → Ahead (width (K·Key .words)) l q d len (K·Key .num rest) → Walk (width (K·Key .words)) (local m) (Along m l q d) l q d (now (nodes .entry)) (place .count) (place .node) → Cases r (Unit {0}) (λ p. Way-made (width (K·Key .words)) m l q (now (nodes .exit)) (p .count) (p .node))) ⌝ }
+    ensures enough { λ r. ⌜ ((m : Hops) (rs : List Route) (l q d : ℕ) → Ahead (width (K·Key .words)) l q d len (K·Key .num rest) → Walk (width (K·Key .words)) (local m) (Along m l q d) l q d (now (nodes .entry)) (place .count) (place .node) → Apart m (hops (width (K·Key .words)) rs) l q → hops (width (K·Key .words)) rs l q ≢ 0 → Enough (K·Key .words) rs (length (now (nodes .entry))) → isSome r ≡ true) ⌝ }
 {
     let nibble = rest.nibble();
     if len <= 4 {

@@ -1,18 +1,18 @@
 // The cells that a prefix covers in the last node of its way, as sixteen bits, and the words of these cells.
 ghost use mathlib.Core.Path.{_≡_};
-ghost use mathlib.Core.Bool.{Bool, true, false, cond};
+ghost use mathlib.Core.Bool.{true, false, cond};
 ghost use Prim.Native.Nat.{ℕ, _+_, _-_, _*_, _/_, _%_, _^_, _<_, _≤_};
 ghost use lib.Count.{ones};
 ghost use lib.Dec.{eqb, leb};
-ghost use lib.ListN.{length, getD, set};
+ghost use lib.ListN.{length, set};
 ghost use Rattle.prefix.specs.Words.{width};
 ghost use Rattle.prefix.specs.Routes.{first};
-ghost use Rattle.grow.specs.Ways.{depth-of, Left};
+ghost use Rattle.grow.specs.Ways.{depth-of, Ahead};
 ghost use Rattle.grow.specs.Cells.{bit, Cells, Written};
 use prefix::Key;
 use prefix::Prefix;
 
-// Bit k is set where the prefix covers cell k. None is where the prefix has no bits, or more than a key.
+// Bit k is set where the prefix covers cell k. No bit is where the prefix has none itself, or more than a key.
 pub fn cells<K: Key>(prefix: Prefix<K>) -> u16
     ensures bits { λ r. ⌜ (0 < prefix .len → prefix .len ≤ width (K·Key .words) → Cells (prefix .len) (first (width (K·Key .words)) (prefix .len) (K·Key .num (prefix .bits))) (depth-of (prefix .len)) r) ⌝ }
     ensures count { λ r. ⌜ (0 < prefix .len → prefix .len ≤ width (K·Key .words) → ones r ≡ 2 ^ (4 * depth-of (prefix .len) + 4 - prefix .len)) ⌝ }
@@ -30,7 +30,7 @@ pub fn cells<K: Key>(prefix: Prefix<K>) -> u16
 fn last_nibble<K: Key>(rest: K, len: u32) -> u32
     ensures small { λ _. ⌜ K·Key .num rest < 2 ^ width (K·Key .words) ⌝ }
     ensures below { λ r. ⌜ r < 16 ⌝ }
-    ensures ends { λ r. ⌜ ((l q d : ℕ) → Left (width (K·Key .words)) l q d len (K·Key .num rest) → r / 2 ^ (4 * depth-of l + 4 - l) ≡ q % 2 ^ (l - 4 * depth-of l)) ⌝ }
+    ensures ends { λ r. ⌜ ((l q d : ℕ) → Ahead (width (K·Key .words)) l q d len (K·Key .num rest) → r / 2 ^ (4 * depth-of l + 4 - l) ≡ q % 2 ^ (l - 4 * depth-of l)) ⌝ }
 {
     let nibble = rest.nibble();
     if len <= 4 {
@@ -66,6 +66,7 @@ pub fn write_words(nodes: &mut [u32], node: u32, mask: u16, words: &[u32; 16]) -
     true
 }
 
+// Whether bit k is set.
 fn has(mask: u16, k: u32) -> bool
     requires { ⌜ k < 16 ⌝ }
     ensures { λ r. ⌜ r ≡ bit mask k ⌝ }
@@ -73,6 +74,7 @@ fn has(mask: u16, k: u32) -> bool
     mask >> k & 1 == 1
 }
 
+// One word, or none: a function of its own, so that the loop has no branch of its own to prove.
 fn write_word(nodes: &mut [u32], at: usize, wanted: bool, word: u32)
     requires { ⌜ at < length (now nodes) ⌝ }
     ensures { λ _. ⌜ now (nodes .exit) ≡ cond wanted (set (now (nodes .entry)) at word) (now (nodes .entry)) ⌝ }

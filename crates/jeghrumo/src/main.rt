@@ -96,6 +96,7 @@ fn execute<W: Write>(
         Command::Away { bits, len } => reply(out, tables::away(row, bits, len)),
         Command::Look { address } => reply(out, tables::look(row, address)),
         Command::Beneath { bits, len } => beneath(out, row, bits, len),
+        Command::Nodes => reply(out, Reply::Nodes(table::nodes(row) as u64)),
     }
 }
 

@@ -1,21 +1,19 @@
-// The table that the program serves: a row that it owns, and what each command does to it.
+// The table that the program serves: a row that it owns, and what each command does to it and is replied.
 ghost use mathlib.Core.Path.{_≡_};
-ghost use mathlib.Core.Bool.{true, false};
-ghost use Rattle.std.specs.Options.{Cases as BySome};
-ghost use Rattle.prefix.specs.Routes.{route-of, answer, good-prefix};
-ghost use Rattle.jeghrumo.specs.Served.{listed, told, refusal, Put-serves, Away-serves};
+ghost use Rattle.prefix.specs.Routes.{answer};
+ghost use Rattle.table.specs.Right.{Right, listed};
+ghost use Rattle.table.specs.declared.entries.Change.the-variants.{Put, Away};
+ghost use Rattle.jeghrumo.specs.Served.{told, reply-of, Change-serves};
 use prefix::Prefix;
 use prefix::U32Key;
 use routes::Extent;
-use routes::Full;
 use std::alloc::Global;
+use table::Change;
+use table::Done;
 use text::Reply;
 
 // What a route takes of the row: its bits, its length and its hop.
-pub(crate) const STRIDE: usize = 3;
-
-// The largest hop that there is.
-const LAST_HOP: u64 = 65_535;
+const STRIDE: usize = 3;
 
 // A row for so many routes, or none where there is no memory for it.
 pub(crate) fn make(heap: Global, room: u64) -> Option<Vec<u32>> {
@@ -28,50 +26,42 @@ pub(crate) fn make(heap: Global, room: u64) -> Option<Vec<u32>> {
 
 // Where the longest route that matches the address sends it.
 pub(crate) fn look(row: &[u32], address: u32) -> Reply
-    ensures { λ r. ⌜ r ≡ told (answer 32 (listed (now (row .entry))) address) ⌝ }
+    ensures { λ r. ⌜ (Right 1 (now (row .entry)) → r ≡ told (answer 32 (listed 1 (now (row .entry))) address)) ⌝ }
 {
-    match routes::scan(row, STRIDE, address) {
-        Some(hop) => Reply::To(hop as u64),
-        None => Reply::Nowhere,
+    match table::look(row, address) {
+        Done::To(hop) => Reply::To(hop),
+        _ => Reply::Nowhere,
     }
 }
 
-// Puts a route, where its prefix is one and its hop is not too high.
+// Puts a route.
 pub(crate) fn put(row: &mut [u32], bits: u32, len: u64, hop: u64) -> Reply
-    ensures { λ r. ⌜ Put-serves (refusal bits len hop) (now (row .entry)) (now (row .exit)) (route-of bits len hop) r ⌝ }
+    ensures { λ r. ⌜ Change-serves (now (row .entry)) (now (row .exit)) (Put bits len hop) len hop r ⌝ }
 {
-    let Some(prefix) = good_prefix(bits, len) else {
-        return Reply::Refused {
-            number: 1,
-            place: len,
-        };
-    };
-    if hop > LAST_HOP {
-        return Reply::Refused {
-            number: 2,
-            place: hop,
-        };
-    }
-    match routes::insert(row, STRIDE, prefix, hop as u32) {
-        Ok(_) => Reply::Ready,
-        Err(Full) => Reply::Full,
-    }
+    replied(table::apply(row, Change::Put { bits, len, hop }), len, hop)
 }
 
 // Takes a route away.
 pub(crate) fn away(row: &mut [u32], bits: u32, len: u64) -> Reply
-    ensures { λ r. ⌜ Away-serves (now (row .entry)) (now (row .exit)) bits len r ⌝ }
+    ensures { λ r. ⌜ Change-serves (now (row .entry)) (now (row .exit)) (Away bits len) len 0 r ⌝ }
 {
-    if len > 32 {
-        return Reply::Without;
-    }
-    let prefix = Prefix {
-        bits,
-        len: len as u32,
-    };
-    match routes::remove(row, STRIDE, prefix) {
-        Some(_) => Reply::Ready,
-        None => Reply::Without,
+    replied(table::apply(row, Change::Away { bits, len }), len, 0)
+}
+
+// What is said of a change. A refusal names its place: 1 the length, 2 the hop.
+fn replied(done: Done, len: u64, hop: u64) -> Reply
+    ensures { λ r. ⌜ r ≡ reply-of done len hop ⌝ }
+{
+    match done {
+        Done::To(hop) => Reply::To(hop),
+        Done::Nowhere => Reply::Nowhere,
+        Done::Ready => Reply::Ready,
+        Done::Full => Reply::Full,
+        Done::Without => Reply::Without,
+        Done::Refused(number) => {
+            let place = if number <= 1 { len } else { hop };
+            Reply::Refused { number, place }
+        }
     }
 }
 
@@ -98,18 +88,4 @@ pub(crate) fn beneath(row: &[u32], k: usize, bits: u32, len: u64) -> Option<Repl
         len: prefix.len as u64,
         hop: hop as u64,
     })
-}
-
-// The prefix that bits and a length are, if they are one.
-fn good_prefix(bits: u32, len: u64) -> Option<Prefix<u32>>
-    ensures { λ r. ⌜ BySome r (good-prefix 32 len bits ≡ false) (λ p. (good-prefix 32 len bits ≡ true) × (p .bits ≡ bits) × (p .len ≡ len)) ⌝ }
-{
-    if len > 32 {
-        return None;
-    }
-    let prefix = Prefix {
-        bits,
-        len: len as u32,
-    };
-    if prefix.is_good() { Some(prefix) } else { None }
 }

@@ -4,7 +4,7 @@ use mathlib.Core.List.{List}
 use mathlib.Core.Logic.{_≢_, _⊎_, inl, inr, ⊎-elim}
 use Prim.Native.Nat.{ℕ, _+_, _-_, _*_, _/_, _%_, _^_, _<_, _≤_}
 use native.Mathlib.Omega.{arith}
-use lib.ListN.{length, getD, set}
+use lib.ListN.{getD, set}
 use Rattle.std.proofs.shelf.Lists.{getD-set-other}
 use Rattle.std.proofs.shelf.Tests.{cases-eq}
 use Rattle.prefix.specs.Map.{Hops}
@@ -16,7 +16,8 @@ use Rattle.trie.proofs.Changes.{same-live}
 use Rattle.trie.proofs.Places.{way-closed, way-deeper}
 use Rattle.trie.proofs.Rows.{blank-node, link-here, link-else, link-words}
 use Rattle.trie.proofs.Updates.{Left, not-needed, remove-cut, remove-done, still-needed, remove-all}
-use Rattle.prune.specs.Free.{Used, Differ, Loose, Partly, Stays, Chain}
+use Rattle.prune.specs.Free.{Used, Differ, Partly}
+use Rattle.prune.specs.Walk.{Stays, Chain}
 
 -- one of the 32 numbers is a cell's word or its link
 either-number : (t : List ℕ) (a y : ℕ) → getD t (32 * a + y) 0 ≢ 0 → (said t a (y / 2) ≢ 0) ⊎ (goes t a (y / 2) ≢ 0)

@@ -2,3 +2,4 @@
 pub mod Holes
 pub mod Walks
 pub mod Cuts
+pub mod Between

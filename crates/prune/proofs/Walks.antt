@@ -16,7 +16,7 @@ use Rattle.trie.specs.Shape.{local, Deeper, Child, Held}
 use Rattle.trie.specs.Places.{Way, step, Along}
 use Rattle.trie.proofs.Shapes.{carry}
 use Rattle.trie.proofs.Places.{way-root, way-on, shows}
-use Rattle.prune.specs.Free.{Stays, Bare, Chain, Walked, Rest}
+use Rattle.prune.specs.Walk.{Stays, Bare, Chain, Walked, Rest}
 
 -- behind one nibble, and behind one more
 pub rest-start : (w x : ℕ) → Rest w 1 x (rest-of w x)

@@ -1,2 +1,4 @@
--- The definitions of the crate: what a row is while nodes of it are free.
+-- The definitions of the crate: a row of which some nodes are free, what holds of it, and the walk that finds them.
 pub mod Free
+pub mod Laws
+pub mod Walk

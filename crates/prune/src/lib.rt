@@ -1,6 +1,6 @@
 // Nodes given back: when a route has been removed, the nodes on the way to its prefix that have become empty are cut off, and last nodes are moved into the holes. Safe on every row; what a row is in between is defined in specs/Free.antt.
 ghost use mathlib.Core.Path.{_≡_};
-ghost use Prim.Native.Nat.{ℕ, _≤_};
+ghost use Prim.Native.Nat.{_≤_};
 ghost use Rattle.std.specs.declared.option.Option.the-variants.{Some, None};
 ghost use Rattle.prefix.specs.Words.{width};
 ghost use Rattle.prefix.specs.Map.{Hops};
@@ -10,6 +10,7 @@ use prefix::Key;
 use prefix::Prefix;
 
 mod hints;
+pub mod laws;
 mod moves;
 mod ways;
 

@@ -8,7 +8,7 @@ ghost use Rattle.std.specs.declared.option.Option.the-variants.{Some, None};
 ghost use Rattle.prefix.specs.Map.{Hops};
 ghost use Rattle.trie.specs.Shape.{Trie-of};
 ghost use Rattle.trie.proofs.Changes.{Moved};
-ghost use Rattle.prune.specs.Free.{Used, Differ, Loose, Partly};
+ghost use Rattle.prune.specs.Free.{Used, Loose, Partly};
 use crate::hints::hinted;
 use crate::hints::set_moved;
 
@@ -105,6 +105,10 @@ pub fn close_up(
     ensures { λ r. ⌜ elim r [ Some n ↦ ((w : ℕ) (m : Hops) → Partly w m (now (nodes .entry)) count (now (free .entry)) left → Trie-of w m (now (nodes .exit)) n × (n + left ≡ count)) | None ↦ Unit ] ⌝ }
 {
     if count as usize > nodes.len() / 32 || left > free.len() || left > count as usize {
+        return None;
+    }
+    // Hints stand behind all nodes, those that are vacated too: a reader may still go on in one.
+    if hints < 32 * count as usize {
         return None;
     }
     let mut n = count;

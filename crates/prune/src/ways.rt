@@ -6,7 +6,8 @@ ghost use lib.ListN.{length, getD, set};
 ghost use Rattle.std.specs.declared.option.Option.the-variants.{Some, None};
 ghost use Rattle.prefix.specs.Words.{width};
 ghost use Rattle.prefix.specs.Map.{Hops};
-ghost use Rattle.prune.specs.Free.{Stays, Bare, Walked, Partly, With-way, Needed};
+ghost use Rattle.prune.specs.Free.{Partly, With-way, Needed};
+ghost use Rattle.prune.specs.Walk.{Stays, Bare, Walked};
 use prefix::Key;
 use prefix::Prefix;
 

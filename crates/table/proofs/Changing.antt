@@ -61,8 +61,8 @@ pub mapped-still : (words : ℕ) (old new : List ℕ) (m : Hops) → Mapped word
 mapped-still words old new m r b fewer proper order =
     let at = b .space in
     let part : trie words new ≡ trie words old = rw at
-          (ext-getD 0 (drop (default-at words (room old) + 2) new) (drop (default-at words (room old) + 2) old) (length-drop _ new ∙ omega (arith, b .long, length-drop (default-at words (room old) + 2) old))
-            (λ i h. getD-drop _ new i 0 ∙ b .same _ (omega arith) ∙ sym (getD-drop _ old i 0))) in
+    (ext-getD 0 (drop (default-at words (room old) + 2) new) (drop (default-at words (room old) + 2) old) (length-drop _ new ∙ omega (arith, b .long, length-drop (default-at words (room old) + 2) old))
+    (λ i h. getD-drop _ new i 0 ∙ b .same _ (omega arith) ∙ sym (getD-drop _ old i 0))) in
     let count : nodes words new ≡ nodes words old = rw at (b .same _ (omega arith)) in
     record {
       long = b .long ∙ r .long ∙ ap (row-length words) (sym at);
@@ -115,13 +115,14 @@ module _ (words : ℕ) (old new : List ℕ) (m : Hops) (r : Mapped words old m) 
       let l = with-room words (stride words) old n less in
       let at = room-is words (stride words) old l in
       let pos : 0 < length old = omega (arith, l .long) in
-      let far = next-slot (stride words) n (room old) (omega arith) in
-      (record {
-         long = long;
-         space = a .moved .before 1 (omega arith) ∙ getD-set-other old 0 1 (suc n) 0 (omega arith);
-         same = λ i h. a .moved .behind i (omega arith) ∙ getD-set-other old 0 i (suc n) 0 (omega arith);
-       },
-       omega (arith, a .moved .before 0 (omega arith), getD-set-same old 0 (suc n) 0 pos))
+      let far = next-slot (stride words) n (room old) (omega arith) in (
+        record {
+          long = long;
+          space = a .moved .before 1 (omega arith) ∙ getD-set-other old 0 1 (suc n) 0 (omega arith);
+          same = λ i h. a .moved .behind i (omega arith) ∙ getD-set-other old 0 i (suc n) 0 (omega arith);
+        },
+        omega (arith, a .moved .before 0 (omega arith), getD-set-same old 0 (suc n) 0 pos),
+      )
 
   pub replaced-behind : (x : Route) (k : ℕ) → Found (listed words old) (x .bits) (x .len) k → Replaced words (stride words) old new x k → Behind words old new × (getD new 0 0 ≤ room old)
   replaced-behind x k f a =
@@ -140,13 +141,14 @@ module _ (words : ℕ) (old new : List ℕ) (m : Hops) (r : Mapped words old m) 
       let l = with-room words (stride words) old k (omega (arith, f .within, count-room words (stride words) old)) in
       let at = room-is words (stride words) old l in
       let pos : 0 < length old = omega (arith, l .long) in
-      let far = slots-rise (stride words) n (room old) (omega (arith, count-room words (stride words) old)) in
-      (record {
-         long = long;
-         space = a .moved .before 1 (omega arith) ∙ getD-set-other old 0 1 (n - 1) 0 (omega arith);
-         same = λ i h. a .moved .behind i (omega arith) ∙ getD-set-other old 0 i (n - 1) 0 (omega arith);
-       },
-       omega (arith, a .moved .before 0 (omega arith), getD-set-same old 0 (n - 1) 0 pos, count-room words (stride words) old))
+      let far = slots-rise (stride words) n (room old) (omega (arith, count-room words (stride words) old)) in (
+        record {
+          long = long;
+          space = a .moved .before 1 (omega arith) ∙ getD-set-other old 0 1 (n - 1) 0 (omega arith);
+          same = λ i h. a .moved .behind i (omega arith) ∙ getD-set-other old 0 i (n - 1) 0 (omega arith);
+        },
+        omega (arith, a .moved .before 0 (omega arith), getD-set-same old 0 (n - 1) 0 pos, count-room words (stride words) old),
+      )
 
 -- what `enter` and `leave` need after a change of the list of a right table
 pub record Put-open (words : ℕ) (old new : List ℕ) (x : Route) : Type 0 where

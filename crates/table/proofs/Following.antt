@@ -21,7 +21,7 @@ use Rattle.trie.proofs.Changes.{change}
 use Rattle.grow.specs.Ways.{depth-of, Way-made, Way-found}
 use Rattle.grow.proofs.Renewals.{node-fits, put-done, words-renewed}
 use Rattle.prune.specs.Free.{With-way}
-use Rattle.table.specs.Right.{Mapped, Right, room, row-length, most-nodes, default-at, listed, default, nodes, trie}
+use Rattle.table.specs.Right.{Mapped, Right, Sound, room, row-length, most-nodes, default-at, listed, default, nodes, trie}
 use Rattle.table.specs.Follows.{Front, Beside, Renewed, Default-set}
 use Rattle.table.proofs.Lent.{front-room, front-listed, beside-trans}
 
@@ -94,12 +94,13 @@ same-longer w m m′ t n same h =
       path = h .path;
       fits = h .fits;
       shape =
-        change (h .shape) (λ i k a b. refl) (λ i k a b. h .shape .says i k a b ∙ sym (local-same (h .depth i) (16 * h .path i + k)))
+          change (h .shape) (λ i k a b. refl) (λ i k a b. h .shape .says i k a b ∙ sym (local-same (h .depth i) (16 * h .path i + k)))
           (λ i k a b z p. deeper m′ m (λ l q s. sym (same l q s)) _ _ p) (λ i p a y. deeper m m′ same _ _ y);
     }
   where
     local-same : (d c : ℕ) → local m′ d c ≡ local m d c
     local-same d c = locals m′ m d c same
+
     deeper : (a b : Hops) → ((l q : ℕ) → 0 < l → b l q ≡ a l q) → (d c : ℕ) → Deeper a d c → Deeper b d c
     deeper a b e d c y = record { len = y .len; bits = y .bits; long = y .long; there = λ z. y .there (sym (e (y .len) (y .bits) (omega (arith, y .long))) ∙ z); begins = y .begins }
 
@@ -113,9 +114,10 @@ default-front words old new len bits s =
 -- a number written where the default stands leaves the nodes
 default-beside : (words : ℕ) (old new : List ℕ) (v : ℕ) → new ≡ set old (default-at words (room old)) v → room new ≡ room old → (nodes words new ≡ nodes words old) × (trie words new ≡ trie words old)
 default-beside words old new v is same =
-    rw same
-    (ap (λ (xs : List ℕ). getD xs (default-at words (room old) + 1) 0) is ∙ getD-set-other old (default-at words (room old)) (default-at words (room old) + 1) v 0 (omega arith),
-     ap (drop (default-at words (room old) + 2)) is ∙ drop-set-lt (default-at words (room old) + 2) old (default-at words (room old)) v (omega arith))
+    rw same (
+      ap (λ (xs : List ℕ). getD xs (default-at words (room old) + 1) 0) is ∙ getD-set-other old (default-at words (room old)) (default-at words (room old) + 1) v 0 (omega arith),
+      ap (drop (default-at words (room old) + 2)) is ∙ drop-set-lt (default-at words (room old) + 2) old (default-at words (room old)) v (omega arith),
+    )
 
 -- the prefix of no bits has none
 no-bits : (w bits : ℕ) → good-prefix w 0 bits ≡ true → bits ≡ 0
@@ -163,3 +165,16 @@ default-written words at v old is inside =
     let space : room (set old at v) ≡ room old = getD-set-other old at 1 v 0 (omega arith) in
     let value : default words (set old at v) ≡ v = rw (space, ← is) (getD-set-same old at v 0 (omega arith)) in
     (value, rw (value, is))
+
+-- a list that no step touched is still sound
+pub sound-still : (words : ℕ) (old new : List ℕ) (m : Hops) → Mapped words old m → Front words old new → Sound words new
+sound-still words old new m r f =
+    let space = front-room words old new f in
+    let list = front-listed words old new f in
+    record {
+      long = f .long ∙ r .long ∙ ap (row-length words) (sym space);
+      small = rw space (r .small);
+      fewer = let c = f .same 0 (omega arith) in omega (arith, r .fewer);
+      proper = rw list (r .proper);
+      order = rw list (r .order);
+    }

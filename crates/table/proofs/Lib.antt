@@ -6,3 +6,5 @@ pub mod Lent
 pub mod Following
 pub mod Changing
 pub mod Refusals
+pub mod Theorems
+pub mod AnewSteps

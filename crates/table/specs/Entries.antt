@@ -27,6 +27,11 @@ Put-entry-says zero old new r done = Right 1 old → ((done ≡ Ready) × Put-do
 abbrev pub Take-away-says : (old new : List ℕ) (len bits : ℕ) → Done → Type 0
 Take-away-says old new len bits done = Right 1 old → ((done ≡ Ready) × Away-done 1 old new len bits) ⊎ ((done ≡ Without) × Away-none 1 old new len bits)
 
+-- one change, by its entry
+abbrev pub Apply-says : (old new : List ℕ) → Change → Done → Type 0
+Apply-says old new (Put bits len hop) done = Put-entry-says (refusal bits len hop) old new (route-of bits len hop) done
+Apply-says old new (Away bits len) done = Take-away-says old new len bits done
+
 -- what one change makes of a list with room for n: the route is put, or the list is full and stays; what is refused leaves it; the route is taken away
 abbrev pub Put-effect : (number n : ℕ) → Route → (rs new : List Route) → Type 0
 Put-effect (suc number) n r rs new = new ≡ rs

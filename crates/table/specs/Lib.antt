@@ -5,3 +5,5 @@ pub mod Words
 pub mod Follows
 pub mod Changes
 pub mod Entries
+pub mod Laws
+pub mod Anew

@@ -3,10 +3,14 @@ ghost use mathlib.Core.Path.{_≡_};
 ghost use mathlib.Core.Bool.{true, false};
 ghost use Rattle.std.specs.Options.{Cases as BySome};
 ghost use Rattle.prefix.specs.Routes.{answer, route-of, good-prefix};
-ghost use Rattle.table.specs.Right.{Right, listed};
+ghost use Rattle.table.specs.Right.{Right, Sound, listed, nodes};
+ghost use Rattle.table.specs.Follows.{Front};
 ghost use Rattle.table.specs.Answers.{told};
-ghost use Rattle.table.specs.Entries.{refusal, Put-entry-says};
+ghost use Rattle.table.specs.Entries.{refusal, Put-entry-says, Take-away-says, Apply-says, Carried-out};
+use crate::anew::rebuild;
+use crate::changes::away;
 use crate::changes::put;
+use crate::parts::default_place;
 use crate::parts::lookup;
 use prefix::Prefix;
 use prefix::U32Key;
@@ -55,6 +59,61 @@ pub fn put_entry(table: &mut [u32], bits: u32, long: u64, to: u64) -> Done
     }
 }
 
+// Takes a route away. A length above 32 is no route's.
+pub fn take_away(table: &mut [u32], bits: u32, long: u64) -> Done
+    ensures { λ r. ⌜ Take-away-says (now (table .entry)) (now (table .exit)) long bits r ⌝ }
+{
+    if long > 32 {
+        return Done::Without;
+    }
+    let prefix = Prefix {
+        bits,
+        len: long as u32,
+    };
+    if away(table, prefix) {
+        Done::Ready
+    } else {
+        Done::Without
+    }
+}
+
+// Makes the default and the trie anew from the list, whatever they hold. False where the row has not the parts of a table.
+pub fn make_anew(table: &mut [u32]) -> bool
+    ensures front { λ _. ⌜ Front 1 (now (table .entry)) (now (table .exit)) ⌝ }
+    ensures right { λ r. ⌜ (Sound 1 (now (table .entry)) → (r ≡ true) × Right 1 (now (table .exit))) ⌝ }
+{
+    rebuild::<u32>(table)
+}
+
+// Carries out one change.
+pub fn apply(table: &mut [u32], change: Change) -> Done
+    ensures { λ r. ⌜ Apply-says (now (table .entry)) (now (table .exit)) change r ⌝ }
+{
+    match change {
+        Change::Put { bits, len, hop } => put_entry(table, bits, len, hop),
+        Change::Away { bits, len } => take_away(table, bits, len),
+    }
+}
+
+// Carries out changes one after the other. One that is refused, finds no room or has nothing to take away leaves the table as it is.
+pub fn carry_out(table: &mut [u32], changes: &[Change])
+    ensures { λ _. ⌜ (Right 1 (now (table .entry)) → Carried-out (now (table .entry)) (now (table .exit)) (now (changes .entry))) ⌝ }
+{
+    for change in changes {
+        apply(table, *change);
+    }
+}
+
+// How many nodes the trie of a table has; 0 where the row has not the parts of a table.
+pub fn nodes(table: &[u32]) -> u32
+    ensures { λ r. ⌜ (Right 1 (now (table .entry)) → r ≡ nodes 1 (now (table .entry))) ⌝ }
+{
+    match default_place::<u32>(table) {
+        Some(at) => table[at + 1],
+        None => 0,
+    }
+}
+
 // The prefix that bits and a length are, if they are one.
 fn good_prefix(bits: u32, len: u64) -> Option<Prefix<u32>>
     ensures { λ r. ⌜ BySome r (good-prefix 32 len bits ≡ false) (λ p. (good-prefix 32 len bits ≡ true) × (p .bits ≡ bits) × (p .len ≡ len)) ⌝ }
@@ -62,7 +121,10 @@ fn good_prefix(bits: u32, len: u64) -> Option<Prefix<u32>>
     if len > 32 {
         return None;
     }
-    let prefix = Prefix { bits, len: len as u32 };
+    let prefix = Prefix {
+        bits,
+        len: len as u32,
+    };
     if prefix.is_good() { Some(prefix) } else { None }
 }
 

@@ -47,7 +47,12 @@ pub(crate) fn way_end<K: Key>(table: &[u32], at: usize, prefix: Prefix<K>) -> Op
 }
 
 // Makes the words of a prefix's cells new, from the list.
-pub(crate) fn renew_words<K: Key>(table: &mut [u32], at: usize, node: u32, prefix: Prefix<K>) -> bool
+pub(crate) fn renew_words<K: Key>(
+    table: &mut [u32],
+    at: usize,
+    node: u32,
+    prefix: Prefix<K>,
+) -> bool
     requires place { ⌜ at ≡ default-at (K·Key .words) (room (now table)) ⌝ }
     requires inside { ⌜ at + 2 ≤ length (now table) ⌝ }
     requires some { ⌜ 0 < prefix .len ⌝ }

@@ -93,7 +93,7 @@ put-some bs a r b s t d h i j =
     ∙ ap (λ (o : Option ℕ). cond (sameBytes (t .now) (codes "to")) (routed (both (dotted (a .now)) (decimal (b .now))) o) None) (only-is decimal 32 decimal-space (d .now))
 
 -- two texts that differ
-differs : (xs ys : List ℕ) → (xs ≡ ys → ⊥) → sameBytes xs ys ≡ false
+pub differs : (xs ys : List ℕ) → (xs ≡ ys → ⊥) → sameBytes xs ys ≡ false
 differs xs ys n = let d = sameBytes-decides xs ys in ⊎-elim (λ (e : sameBytes xs ys ≡ true). absurd (n (d .0 e))) (λ (e : sameBytes xs ys ≡ false). e) (cases-bool (sameBytes xs ys))
 
 -- what `!=` says of two texts

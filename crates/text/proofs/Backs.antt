@@ -14,9 +14,9 @@ use Rattle.std.specs.Written.{decimal as figures}
 use Rattle.std.proofs.shelf.Decimals.{digits-decimal, value-decimal, decimal-some, length-decimal-le}
 use Rattle.std.proofs.shelf.Numerals.{not-in-digits}
 use Rattle.std.proofs.shelf.Ways.{tells}
-use Rattle.text.specs.declared.lines.Command.the-variants.{Table, Put, Away, Look, Beneath}
+use Rattle.text.specs.declared.lines.Command.the-variants.{Table, Put, Away, Look, Beneath, Nodes}
 use Rattle.text.specs.declared.lines.Line.the-variants.{Command as Asks}
-use Rattle.text.specs.Commands.{both, prefix, routed, put, asked, reads}
+use Rattle.text.specs.Commands.{ordered, both, prefix, routed, put, asked, reads}
 use Rattle.text.specs.Dots.{dots}
 use Rattle.text.specs.Fields.{fields, only}
 use Rattle.text.specs.Laws.{Dotted-round-trip, Command-round-trip}
@@ -114,24 +114,28 @@ route-back bits len hop h i j = ap put (route-words bits len hop i j) ∙ rw (do
 
 -- the first word of each command
 table-word : (ys : List ℕ) → reads (codes "table " ++ ys) ≡ mapped Asks (mapped Table (only decimal (fields 32 ys)))
-unfolding reads fields asked
+unfolding reads ordered fields asked
 table-word ys = refl
 
 put-word : (ys : List ℕ) → reads (codes "put " ++ ys) ≡ mapped Asks (put (fields 32 ys))
-unfolding reads fields asked
+unfolding reads ordered fields asked
 put-word ys = refl
 
 away-word : (ys : List ℕ) → reads (codes "away " ++ ys) ≡ mapped Asks (mapped (λ p. Away (p .0) (p .1)) (prefix (fields 32 ys)))
-unfolding reads fields asked
+unfolding reads ordered fields asked
 away-word ys = refl
 
 look-word : (ys : List ℕ) → reads (codes "look " ++ ys) ≡ mapped Asks (mapped Look (only dotted (fields 32 ys)))
-unfolding reads fields asked
+unfolding reads ordered fields asked
 look-word ys = refl
 
 beneath-word : (ys : List ℕ) → reads (codes "beneath " ++ ys) ≡ mapped Asks (mapped (λ p. Beneath (p .0) (p .1)) (prefix (fields 32 ys)))
-unfolding reads fields asked
+unfolding reads ordered fields asked
 beneath-word ys = refl
+
+nodes-word : reads (codes "nodes") ≡ Some (Asks Nodes)
+unfolding reads ordered
+nodes-word = refl
 
 pub command-back : Command-round-trip
 command-back (Table room) h = table-word (figures room) ∙ ap (λ (l : List (List ℕ)). mapped Asks (mapped Table (only decimal l))) (fields-whole 32 (figures room) (figures-word room h)) ∙ ap (λ (o : Option ℕ). mapped Asks (mapped Table o)) (decimal-back room h)
@@ -139,3 +143,4 @@ command-back (Put bits len hop) h = put-word (dots bits ++ (codes " " ++ (figure
 command-back (Away bits len) h = away-word (dots bits ++ (codes " " ++ figures len)) ∙ ap (λ (o : Option (ℕ × ℕ)). mapped Asks (mapped (λ p. Away (p .0) (p .1)) o)) (prefix-back bits len (h .0) (h .1))
 command-back (Look address) h = look-word (dots address) ∙ ap (λ (l : List (List ℕ)). mapped Asks (mapped Look (only dotted l))) (fields-whole 32 (dots address) (dots-word address)) ∙ ap (λ (o : Option ℕ). mapped Asks (mapped Look o)) (dotted-back address h)
 command-back (Beneath bits len) h = beneath-word (dots bits ++ (codes " " ++ figures len)) ∙ ap (λ (o : Option (ℕ × ℕ)). mapped Asks (mapped (λ p. Beneath (p .0) (p .1)) o)) (prefix-back bits len (h .0) (h .1))
+command-back Nodes h = nodes-word

@@ -8,8 +8,7 @@ use Rattle.std.specs.declared.option.Option.the-variants.{Some}
 use Rattle.std.specs.Options.{mapped}
 use Rattle.std.proofs.shelf.Tests.{eq-eqb, ne-eqb}
 use Rattle.text.specs.declared.lines.Line.the-variants.{Blank, Command as Asks}
-use Rattle.text.specs.Commands.{command, reads}
-use Rattle.text.specs.Fields.{fields}
+use Rattle.text.specs.Commands.{ordered, reads}
 
 pub blank-empty : (bs : List ℕ) → length bs ≡ 0 → Some Blank ≡ reads bs
 unfolding reads
@@ -21,7 +20,7 @@ unfolding reads
 blank-remark [] h = refl
 blank-remark (b ∷ bs) h = rw (eq-eqb b 35 h)
 
-pub reads-else : (bs : List ℕ) → (length bs ≡ 0 → ⊥) → (getD bs 0 0 ≡ 35 → ⊥) → reads bs ≡ mapped Asks (command (fields 32 bs))
+pub reads-else : (bs : List ℕ) → (length bs ≡ 0 → ⊥) → (getD bs 0 0 ≡ 35 → ⊥) → reads bs ≡ mapped Asks (ordered bs)
 unfolding reads
 reads-else [] h n = absurd (h refl)
 reads-else (b ∷ bs) h n = rw (ne-eqb b 35 n)

@@ -4,7 +4,7 @@ use Prim.Native.Nat.{ℕ}
 use lib.Chars.{codes}
 use Rattle.std.specs.Written.{decimal as figures}
 use Rattle.text.specs.declared.replies.Reply.{Reply}
-use Rattle.text.specs.declared.replies.Reply.the-variants.{To, Nowhere, Ready, Full, Without, Refused, NoMemory, Route, Beneath}
+use Rattle.text.specs.declared.replies.Reply.the-variants.{To, Nowhere, Ready, Full, Without, Refused, NoMemory, Route, Beneath, Nodes}
 use Rattle.text.specs.Dots.{dots}
 
 -- the bytes of a reply
@@ -18,3 +18,4 @@ written (Refused number place) = codes "refused " ++ (figures number ++ (codes "
 written NoMemory = codes "no memory"
 written (Route bits len hop) = dots bits ++ (codes " " ++ (figures len ++ (codes " to " ++ figures hop)))
 written (Beneath count) = figures count ++ codes " beneath"
+written (Nodes count) = figures count ++ codes " nodes"

@@ -6,7 +6,7 @@ use crate::replies::DottedDisplay;
 use std::fmt;
 ghost use mathlib.Core.Path.{_≡_};
 ghost use Rattle.std.specs.declared.option.Option.the-variants.{Some};
-ghost use Rattle.text.specs.Commands.{reads, command, put, prefix, said};
+ghost use Rattle.text.specs.Commands.{reads, ordered, command, put, prefix, said};
 ghost use Rattle.text.specs.Fields.{fields};
 
 // What a line asks for. A length and a hop are as written: the table says whether they are in range.
@@ -17,6 +17,7 @@ pub enum Command {
     Away { bits: u32, len: u64 },
     Look { address: u32 },
     Beneath { bits: u32, len: u64 },
+    Nodes,
 }
 
 pub impl fmt::Display for Command as CommandDisplay {
@@ -41,6 +42,7 @@ pub impl fmt::Display for Command as CommandDisplay {
                 let address = Dotted(bits);
                 write!(f, "beneath {address} {len}")
             }
+            Command::Nodes => write!(f, "nodes"),
         }
     }
 }
@@ -59,7 +61,17 @@ pub fn read(line: &str) -> Option<Line>
     if line.is_empty() || line.starts_with('#') {
         return Some(Line::Blank);
     }
-    Some(Line::Command(asked(line)?))
+    Some(Line::Command(ordered(line)?))
+}
+
+// The command of a line: of one word, or by its first word.
+fn ordered(line: &str) -> Option<Command>
+    ensures { λ r. ⌜ r ≡ ordered (now (line .entry)) ⌝ }
+{
+    if line == "nodes" {
+        return Some(Command::Nodes);
+    }
+    asked(line)
 }
 
 // The command of a line, by its first word. 32 is the space.

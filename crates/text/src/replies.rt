@@ -29,6 +29,7 @@ pub enum Reply {
     NoMemory,
     Route { bits: u32, len: u64, hop: u64 },
     Beneath(u64),
+    Nodes(u64),
 }
 
 pub impl fmt::Display for Reply as ReplyDisplay {
@@ -48,6 +49,7 @@ pub impl fmt::Display for Reply as ReplyDisplay {
                 write!(f, "{address} {len} to {hop}")
             }
             Reply::Beneath(count) => write!(f, "{count} beneath"),
+            Reply::Nodes(count) => write!(f, "{count} nodes"),
         }
     }
 }

@@ -15,7 +15,7 @@ use Rattle.prefix.specs.Map.{Hops, hops, or-else, longest}
 use Rattle.prefix.proofs.Map.{answer-longest}
 use Rattle.prefix.proofs.Nibbles.{rest-of, first-top, first-low, fits-width}
 use Rattle.trie.specs.Nodes.{said, goes, nibbles, looked}
-use Rattle.trie.specs.Shape.{local, Trie-of}
+use Rattle.trie.specs.Shape.{local, Deeper, Shape, Trie-of}
 use Rattle.trie.proofs.Steps.{ends, more}
 
 or-assoc : (a b c : ℕ) → or-else (or-else a b) c ≡ or-else a (or-else b c)
@@ -87,55 +87,63 @@ at-start w s key some e small =
       small = small;
     }
 
-module _ {w : ℕ} {m : Hops} {t : List ℕ} {nodes : ℕ} (trie : Trie-of w m t nodes) where
+-- over any live nodes, as while some are free; each lies in the row
+module _ {w : ℕ} {m : Hops} (t : List ℕ) {Live : ℕ → Type 0} {depth path : ℕ → ℕ} (shape : Shape w (local m) (Deeper m) (said t) (goes t) Live depth path)
+    (fits : (i : ℕ) → Live i → 32 * i + 32 ≤ length t) where
   -- where a cell names no node, no longer prefix of the key is in the map
   none-longer :
-      (i k n x : ℕ) → i < nodes → k < 16 → goes t i k ≡ 0 → 4 * trie .depth i + 4 + n ≡ w → x / 2 ^ n ≡ 16 * trie .path i + k
-      → longest m w x w ≡ longest m w x (4 * trie .depth i + 4)
+      (i k n x : ℕ) → Live i → k < 16 → goes t i k ≡ 0 → 4 * depth i + 4 + n ≡ w → x / 2 ^ n ≡ 16 * path i + k
+      → longest m w x w ≡ longest m w x (4 * depth i + 4)
   none-longer i k n x il kl stop e v =
-      let d : ℕ = trie .depth i in
+      let d : ℕ = depth i in
       let none : (j : ℕ) → 4 * d + 4 < j → j ≤ 4 * d + 4 + n → m j (first w j x) ≡ 0 =
       λ j lo hi.
       ⊎-elim (λ z. z)
       (λ some. absurd
-      (trie .shape .stops i k il kl stop
-      record { len = j; bits = first w j x; long = omega arith; there = some; begins = longer w x (16 * trie .path i + k) n j (j - 4 * (d + 1)) v (omega arith) }))
+      (shape .stops i k il kl stop
+      record { len = j; bits = first w j x; long = omega arith; there = some; begins = longer w x (16 * path i + k) n j (j - 4 * (d + 1)) v (omega arith) }))
       (cases-eq (m j (first w j x)) 0) in
       ap (longest m w x) (sym e) ∙ longest-same m w x (4 * d + 4) n none
 
   -- from a node on: found or else z is what the prefixes as far as the node answer
   descent :
-      (s i key found z x : ℕ) → i < nodes → 4 * (trie .depth i + s) ≡ w → At w s (trie .path i) key x → or-else found z ≡ longest m w x (4 * trie .depth i)
+      (s i key found z x : ℕ) → Live i → 4 * (depth i + s) ≡ w → At w s (path i) key x → or-else found z ≡ longest m w x (4 * depth i)
       → or-else (looked t i (nibbles w s key) found) z ≡ longest m w x w
   unfolding looked nibbles
   descent zero i key found z x il e at so = so ∙ ap (longest m w x) (omega arith)
   descent (suc s) i key found z x il e at so =
-      let d : ℕ = trie .depth i in
+      let d : ℕ = depth i in
       let k : ℕ = key / 2 ^ (w - 4) in
-      let on = at-more w s (trie .path i) key x (omega arith) at in
-      let in-row : 32 * i + (2 * k + 1) < length t = omega (arith, trie .fits, at .small) in
+      let on = at-more w s (path i) key x (omega arith) at in
+      let in-row : 32 * i + (2 * k + 1) < length t = omega (arith, fits i il, at .small) in
       let best : ℕ = or-else (said t i k) found in
       let so′ : or-else best z ≡ longest m w x (4 * d + 4) =
-      or-assoc (said t i k) found z ∙ rw (so, trie .shape .says i k il (at .small)) (sym (longest-more m w x d _ (4 * s) (on .path) (omega arith))) in
+      or-assoc (said t i k) found z ∙ rw (so, shape .says i k il (at .small)) (sym (longest-more m w x d _ (4 * s) (on .path) (omega arith))) in
       ⊎-elim
       (λ (stop : goes t i k ≡ 0).
       rw (ends t i k (nibbles w s (rest-of w key)) found in-row stop) (so′ ∙ sym (none-longer i k (4 * s) x il (at .small) stop (omega arith) (on .path))))
       (λ (go : goes t i k ≢ 0).
-      let child = trie .shape .goes-on i k il (at .small) go in
-      let deep : 4 * d + 4 ≡ 4 * trie .depth (goes t i k) = omega (arith, child .deep) in
+      let child = shape .goes-on i k il (at .small) go in
+      let deep : 4 * d + 4 ≡ 4 * depth (goes t i k) = omega (arith, child .deep) in
       rw (more t i k (nibbles w s (rest-of w key)) found in-row go)
       (descent s (goes t i k) (rest-of w key) best z x (child .live) (omega (arith, child .deep)) (rw (child .along) on) (so′ ∙ ap (longest m w x) deep)))
       (cases-eq (goes t i k) 0)
 
-  -- the main theorem: the trie of a map answers as the map, where the prefix of no bits is added
-  pub looked-longest :
+  -- the trie of a map answers as the map, where the prefix of no bits is added
+  pub looked-live :
       (s key : ℕ) → 0 < s → 4 * s ≡ w → key / 2 ^ (w - 4) < 16 → or-else (looked t 0 (nibbles w s key) 0) (m 0 0) ≡ longest m w key w
   unfolding longest
-  looked-longest s key some e small =
-      let at : At w s (trie .path 0) key key = rw (trie .shape .top .1) (at-start w s key some e small) in
+  looked-live s key some e small =
+      let at : At w s (path 0) key key = rw (shape .top .1) (at-start w s key some e small) in
       let none : first w 0 key ≡ 0 = let p = at-start w s key some e small .path in ap (λ (n : ℕ). key / 2 ^ n) (omega arith) ∙ p in
-      let deep : 4 * trie .depth 0 ≡ 0 = omega (arith, trie .shape .top .0) in
-      descent s 0 key 0 (m 0 0) key (trie .shape .root) (omega (arith, trie .shape .top .0)) at (sym (ap (longest m w key) deep ∙ ap (m 0) none))
+      let deep : 4 * depth 0 ≡ 0 = omega (arith, shape .top .0) in
+      descent s 0 key 0 (m 0 0) key (shape .root) (omega (arith, shape .top .0)) at (sym (ap (longest m w key) deep ∙ ap (m 0) none))
+
+-- the main theorem: the trie of a map answers as the map, where the prefix of no bits is added
+pub looked-longest :
+    {w : ℕ} {m : Hops} {t : List ℕ} {nodes : ℕ} → Trie-of w m t nodes
+    → (s key : ℕ) → 0 < s → 4 * s ≡ w → key / 2 ^ (w - 4) < 16 → or-else (looked t 0 (nibbles w s key) 0) (m 0 0) ≡ longest m w key w
+looked-longest {t = t} trie = looked-live t (trie .shape) (λ i l. omega (arith, trie .fits))
 
 -- and so the trie of a list answers as the list
 pub looked-answer :

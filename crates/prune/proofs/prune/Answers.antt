@@ -1,14 +1,10 @@
 -- What is cut off is closed up.
 use mathlib.Core.Path.{_≡_, refl, sym, _∙_}
-use mathlib.Core.List.{List}
-use Prim.Native.Nat.{ℕ, _+_, _≤_}
+use Prim.Native.Nat.{ℕ}
 use native.Mathlib.Omega.{arith}
 use Rattle.std.specs.declared.option.Option.{Option}
 use Rattle.std.specs.declared.option.Option.the-variants.{Some, None}
-use Rattle.prefix.specs.Map.{Hops}
 use Rattle.prefix.specs.Words.{width}
-use Rattle.trie.specs.Shape.{Trie-of}
-use Rattle.prune.specs.Free.{Partly, With-way}
 use Rattle.prune.proofs.Holes.{closed}
 use Rattle.prune.proofs.prune.Needs as need
 

@@ -1,9 +1,9 @@
 -- The last nibble of a prefix, nibble by nibble.
-use Prim.Native.Nat.{ℕ, _+_, _-_, _*_, _/_, _^_, _≤_, _<_}
+use Prim.Native.Nat.{_+_}
 use native.Mathlib.Omega.{arith}
 use Rattle.prefix.specs.Words.{width}
 use Rattle.prefix.proofs.Nibbles.{fits-width}
-use Rattle.grow.proofs.Lefts.{left-on}
+use Rattle.grow.proofs.Ahead.{ahead-on}
 use Rattle.grow.proofs.Covered.{last-ends}
 use Rattle.grow.proofs.masks.+last_nibble.Needs as need
 
@@ -22,5 +22,5 @@ returns g t c =
     record {
       small = fits-width (width (g .K·Key .words)) (g .K·Key .num (c .args .rest)) (omega arith) (omega arith);
       below = c .last-nibble .ensures .below;
-      ends = λ l q d x. c .last-nibble .ensures .ends l q (d + 1) (left-on x (c .if-len-le4 .left) _ (c .rest .ensures));
+      ends = λ l q d x. c .last-nibble .ensures .ends l q (d + 1) (ahead-on x (c .if-len-le4 .left) _ (c .rest .ensures));
     }

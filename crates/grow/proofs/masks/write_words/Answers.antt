@@ -1,7 +1,5 @@
 -- One word more is written, and at the loop's end all are.
 use mathlib.Core.Path.{sym}
-use mathlib.Core.Bool.{true, false}
-use Prim.Native.Nat.{_+_, _*_, _<_}
 use native.Mathlib.Omega.{arith}
 use Rattle.std.proofs.shelf.Tests.{le-leb, true≢false}
 use Rattle.grow.proofs.Words.{word-more}

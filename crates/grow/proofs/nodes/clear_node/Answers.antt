@@ -1,6 +1,5 @@
 -- One more number of the node is 0.
 use native.Mathlib.Omega.{arith}
-use Prim.Native.Nat.{_+_, _*_}
 use Rattle.std.proofs.shelf.Lists.{getD-set-same, getD-set-other}
 use Rattle.std.proofs.shelf.Tests.{cases-eq}
 use Rattle.grow.proofs.nodes.clear_node.Needs as need

@@ -1,6 +1,5 @@
 -- The last node was free, or is moved to a free number.
-use mathlib.Core.Path.{_≡_, refl}
-use Prim.Native.Nat.{ℕ, _+_, _-_, _*_, _≤_}
+use mathlib.Core.Path.{refl}
 use native.Mathlib.Omega.{arith}
 use Rattle.prune.proofs.Holes.{closed-free, closed-moved}
 use Rattle.prune.proofs.moves.close_one.Needs as need

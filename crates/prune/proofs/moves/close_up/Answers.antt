@@ -1,6 +1,4 @@
 -- Turn by turn one node and one free number less.
-use mathlib.Core.Path.{_≡_, refl}
-use Prim.Native.Nat.{ℕ, _+_, _-_, _*_, _≤_}
 use native.Mathlib.Omega.{arith}
 use Rattle.prune.proofs.Holes.{closed}
 use Rattle.prune.proofs.moves.close_up.Needs as need

@@ -1,5 +1,5 @@
 -- The last node is copied, and its cell mended.
-use mathlib.Core.Path.{_≡_, refl}
+use mathlib.Core.Path.{_≡_}
 use Prim.Native.Nat.{ℕ, _+_, _-_, _*_, _≤_}
 use native.Mathlib.Omega.{arith}
 use lib.ListN.{length}
@@ -15,4 +15,4 @@ returns-else-place-of-left c _ w m h hole live =
     moved h last (c .args .j) (c .in-Some .place) one hole live (omega arith) (c .in-Some .ensures tt) (λ p l. c .place-of .ensures .none p (omega arith))
     (c .copy-within .last .self) (c .set-moved .last .nodes) long
     (copied-over _ _ (c .args .count) (c .args .j) last (omega arith) (c .copy-within .ensures .places .0) (c .copy-within .ensures .places .1) (c .copy-within .ensures .places .2))
-    (c .set-moved .ensures)
+    (λ x l. c .set-moved .ensures x l)

@@ -1,6 +1,5 @@
 -- Only the root is on the way, or the last node is not empty, or the nodes that are empty are cut off.
-use mathlib.Core.Path.{_≡_, refl, sym, subst}
-use Prim.Native.Nat.{ℕ, _+_, _-_, _*_, _/_, _≤_, _<_}
+use mathlib.Core.Path.{refl}
 use native.Mathlib.Omega.{arith}
 use Rattle.prune.proofs.Cuts.{short-way, kept-way, cut-way, needless}
 use Rattle.prune.proofs.ways.cut_off.Needs as need
@@ -8,13 +7,16 @@ use Rattle.prune.proofs.ways.cut_off.Needs as need
 pub returns-then-prefix-le4 : need.returns-then-prefix-le4
 returns-then-prefix-le4 g c = record { right = λ m h. short-way (c .args .free .now) (omega arith) h; kept = λ m h a b o. (refl, refl) }
 
+pub returns-in-None : need.returns-in-None
+returns-in-None g c = record { right = tt; kept = λ m h a b o. absurd (c .in-None .ensures tt m h) }
+
 pub returns-then-used-number-lt32 : need.returns-then-used-number-lt32
 returns-then-used-number-lt32 g c =
     let v = c .in-Some .ensures tt in
     let y = c .if-used-number-lt32 .taken in
     record {
       right = λ m h. kept-way h {free = c .walk .last .free} (v .chain m h) (v .here) (c .used-number .result) y (c .used-number .ensures .some y .1);
-      kept = λ m h a b o. (refl, refl);
+      kept = λ m h a b o. (refl, refl {a = c .args .nodes .now});
     }
 
 pub returns-else-used-number-lt32 : need.returns-else-used-number-lt32

@@ -1,11 +1,11 @@
 -- Step by step down the way.
-use mathlib.Core.Path.{_≡_, refl, sym, subst}
+use mathlib.Core.Path.{_≡_, sym, subst}
 use mathlib.Core.Logic.{inl, inr, ⊎-elim}
-use Prim.Native.Nat.{ℕ, _+_, _-_, _*_, _/_, _≤_, _<_}
+use Prim.Native.Nat.{ℕ, _+_, _-_, _/_, _<_}
 use native.Mathlib.Omega.{arith}
 use lib.ListN.{length, length-set}
 use Rattle.prefix.specs.Words.{width}
-use Rattle.prune.specs.Free.{Rest, Walked}
+use Rattle.prune.specs.Walk.{Rest, Walked}
 use Rattle.prune.proofs.Walks.{rest-start, rest-more, walked-start, walked-on, never-start, never-on}
 use Rattle.prune.proofs.ways.walk.Needs as need
 

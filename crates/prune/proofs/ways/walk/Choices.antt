@@ -1,9 +1,7 @@
 -- The walk has come to depth d, and what is left of the key is behind d nibbles.
 use Prim.Native.Nat.{_-_}
-use Prim.Native.Nat.{_≤_}
-use lib.ListN.{length}
 use Rattle.prefix.specs.Words.{width}
-use Rattle.prune.specs.Free.{Walked, Rest}
+use Rattle.prune.specs.Walk.{Walked, Rest}
 use Rattle.prune.proofs.ways.walk.Given as given
 
 abbrev pub Inv-loop-d : given.InvT-loop-d

@@ -27,6 +27,6 @@ returns g c =
     record {
       front = front-trans (g .K·Key .words) (c .args .table .now) _ _ (w .beside .front) (c .renew-words .ensures .beside .front);
       right = λ m r good apart there.
-        entered (g .K·Key .words) (c .args .table .now) m r (c .args .prefix .len) _ (c .pre .some) apart _ _ (c .in-Some .node) (c .renew-words .result) there (w .beside)
+          entered (g .K·Key .words) (c .args .table .now) m r (c .args .prefix .len) _ (c .pre .some) apart _ _ (c .in-Some .node) (c .renew-words .result) there (w .beside)
           (w .way m (r .trie-is) (c .pre .some) (good-short (width (g .K·Key .words)) (c .args .prefix .len) _ good)) (c .renew-words .ensures);
     }

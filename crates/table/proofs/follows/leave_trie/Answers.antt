@@ -16,7 +16,7 @@ returns-then-renew-words g c =
     record {
       front = front-trans (g .K·Key .words) (c .args .table .now) _ _ (n .beside .front) (c .give-back .ensures .beside .front);
       right = λ m r good apart there done.
-        left (g .K·Key .words) (c .args .table .now) m r (c .args .prefix .len) _ (c .pre .some) apart (c .renew-words .last .table) (c .give-back .last .table) (c .in-Some .node) there
+          left (g .K·Key .words) (c .args .table .now) m r (c .args .prefix .len) _ (c .pre .some) apart (c .renew-words .last .table) (c .give-back .last .table) (c .in-Some .node) there
           (c .in-Some .ensures tt m (r .trie-is) (c .pre .some) (good-short (width (g .K·Key .words)) (c .args .prefix .len) _ good) there) n (c .give-back .ensures .beside)
           (g .K·Key .num (c .args .prefix .bits)) refl (λ way. c .give-back .ensures .right _ way done);
     }

@@ -14,6 +14,6 @@ returns g c =
     record {
       row = d .1;
       value = λ order good.
-        let low = held-low (width (g .K·Key .words)) (listed (g .K·Key .words) (c .args .table .now)) (c .args .prefix .len) (g .K·Key .num (c .args .prefix .bits)) good in
-        d .0 ∙ c .word-of .ensures (omega (arith, get order)) ∙ get order;
+          let low = held-low (width (g .K·Key .words)) (listed (g .K·Key .words) (c .args .table .now)) (c .args .prefix .len) (g .K·Key .num (c .args .prefix .bits)) good in
+          d .0 ∙ c .word-of .ensures (omega (arith, get order)) ∙ get order;
     }

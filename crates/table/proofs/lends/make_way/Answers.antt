@@ -18,8 +18,8 @@ returns-in-rest g c =
       beside = lent-beside (g .K·Key .words) (c .args .at) (c .args .table .now) _ _ (c .pre .place) t;
       way = λ m held some short. tt;
       enough = λ m mapped some short apart there.
-        let fit = nodes-fit (g .K·Key .words) (c .args .table .now) m mapped in
-        enough m (listed (g .K·Key .words) (c .args .table .now)) (mapped .trie-is) some short apart there (fit .0) (fit .1);
+          let fit = nodes-fit (g .K·Key .words) (c .args .table .now) m mapped in
+          enough m (listed (g .K·Key .words) (c .args .table .now)) (mapped .trie-is) some short apart there (fit .0) (fit .1);
     }
 
 pub returns : need.returns

@@ -8,12 +8,13 @@ use Rattle.table.proofs.Cells.{path-first}
 use Rattle.table.proofs.words.words_of.Needs as need
 
 pub loop-k-again : need.loop-k-again
-loop-k-again g c =
-    (length-set _ _ _ ∙ c .loop-k .inv .0,
-     λ order good k h mark.
-       let old = c .loop-k .inv .1 order good k in
-       let new = c .word .ensures order good in
-       grind (arith, getD-set-same, getD-set-other, cases-eq k (c .loop-k .k)))
+loop-k-again g c = (
+  length-set _ _ _ ∙ c .loop-k .inv .0,
+  λ order good k h mark.
+      let old = c .loop-k .inv .1 order good k in
+      let new = c .word .ensures order good in
+      grind (arith, getD-set-same, getD-set-other, cases-eq k (c .loop-k .k)),
+)
 
 pub returns : need.returns
 returns g c order good k h mark =

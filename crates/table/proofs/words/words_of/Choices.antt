@@ -15,4 +15,4 @@ abbrev pub Inv-loop-k : given.InvT-loop-k
 Inv-loop-k g l =
     (length (l .words) ≡ 16)
     × (In-order (listed (g .K·Key .words) (l .table)) → good (width (g .K·Key .words)) (listed (g .K·Key .words) (l .table)) ≡ true → (k : ℕ) → k < l .k → bit (l .mask) k ≡ true →
-      getD (l .words) k 0 ≡ local (hops (width (g .K·Key .words)) (listed (g .K·Key .words) (l .table))) (l .depth) (16 * g .K·Key .num (l .path) + k))
+    getD (l .words) k 0 ≡ local (hops (width (g .K·Key .words)) (listed (g .K·Key .words) (l .table))) (l .depth) (16 * g .K·Key .num (l .path) + k))

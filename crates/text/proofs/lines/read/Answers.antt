@@ -6,9 +6,8 @@ use Rattle.std.specs.Options.{mapped}
 use Rattle.std.proofs.shelf.Patterns.{starts-char}
 use Rattle.std.proofs.shelf.Tests.{eqb-true, eqb-false}
 use Rattle.std.proofs.shelf.Ways.{not-from-decides}
-use Rattle.text.specs.Commands.{reads, command}
+use Rattle.text.specs.Commands.{reads, ordered}
 use Rattle.text.specs.declared.lines.Line.the-variants.{Command as Asks}
-use Rattle.text.specs.Fields.{fields}
 use Rattle.text.proofs.Remarks.{blank-empty, blank-remark, reads-else}
 use Rattle.text.proofs.lines.read.Needs as need
 use Rattle.text.proofs.lines.read.Needs.{Else-starts-with, then-is-empty·by·then-is-empty, then-is-empty·by·else-is-empty·then-starts-with}
@@ -23,13 +22,13 @@ returns-then-is-empty c =
     ]
 
 -- a line that is not passed over
-told : (c : Else-starts-with) → reads (c .args .line .now) ≡ mapped Asks (command (fields 32 (c .args .line .now)))
+told : (c : Else-starts-with) → reads (c .args .line .now) ≡ mapped Asks (ordered (c .args .line .now))
 told c =
     let h = starts-char 35 (c .args .line .now) (c .starts-with .result) (c .starts-with .ensures .cases) (lit< tt) (lit< tt) in
     reads-else (c .args .line .now) (eqb-false (length (c .args .line .now)) 0 (sym (c .is-empty .ensures) ∙ c .if-is-empty .left)) (not-from-decides (c .starts-with .result) h (c .if-starts-with .left))
 
-pub returns-in-Break-asked : need.returns-in-Break-asked
-returns-in-Break-asked c = c .from-residual .ensures ∙ sym (told (need.at·returns-in-Break-asked c .Else-starts-with) ∙ ap (mapped Asks) (sym (c .in-Break-asked .ensures tt)))
+pub returns-in-Break-ordered : need.returns-in-Break-ordered
+returns-in-Break-ordered c = c .from-residual .ensures ∙ sym (told (need.at·returns-in-Break-ordered c .Else-starts-with) ∙ ap (mapped Asks) (sym (c .in-Break-ordered .ensures tt)))
 
 pub returns : need.returns
-returns c = sym (told (need.at·returns c .Else-starts-with) ∙ ap (mapped Asks) (sym (c .in-Continue-asked .ensures tt)))
+returns c = sym (told (need.at·returns c .Else-starts-with) ∙ ap (mapped Asks) (sym (c .in-Continue-ordered .ensures tt)))

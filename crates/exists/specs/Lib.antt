@@ -1,0 +1,2 @@
+-- The definition of the crate: the statement that every good list has a trie.
+pub mod Exists

@@ -1,2 +1,0 @@
--- The lemmas of the program.
-pub mod Serves
