@@ -1,58 +1,37 @@
-// Tables run for long, from a seed: rows of any numbers are looked up, to see that each lookup ends and answers.
+// Tables run for long, from a seed: random changes, with the trie compared with the plain scan after each; and lookups in rows of any numbers.
 mod chance;
+mod damage;
+mod tables;
 
-use chance::Chance;
-use std::io;
-use table::Done;
+use std::error::AnyError;
 
-// How many rows of any numbers, and how many addresses in each.
-const ROWS: u32 = 2000;
+// Rooms of the tables, and how many changes each goes through.
+const ROOMS: [u32; 5] = [1, 2, 7, 100, 1000];
 
-const ADDRESSES: u32 = 50;
+const CHANGES: u32 = 20_000;
 
-fn main(rt: LibcRuntime) -> io::Result<()> {
-    let mut chance = Chance::from_seed(20_261_117);
-    let mut seen = Seen { to: 0, nowhere: 0 };
-    for _ in 0..ROWS {
-        look_at_any(&mut chance, &mut seen);
-    }
-    let Seen { to, nowhere } = seen;
-    println!(rt, "damaged rows: {to} lookups found a hop, {nowhere} none")
+fn main(rt: LibcRuntime) -> Result<(), AnyError> {
+    rt.report(run(&rt))
 }
 
-// What damaged rows answered.
-#[derive(Clone, Copy)]
-struct Seen {
-    to: u64,
-    nowhere: u64,
-}
-
-impl Seen {
-    fn note(&mut self, done: Done) {
-        match done {
-            Done::To(_) => self.to = self.to.saturating_add(1),
-            _ => self.nowhere = self.nowhere.saturating_add(1),
-        }
-    }
-}
-
-// Looks addresses up in a row of any numbers.
-fn look_at_any(chance: &mut Chance, seen: &mut Seen) {
-    let mut row = [0u32; 600];
-    fill(chance, &mut row);
-    for _ in 0..ADDRESSES {
-        seen.note(table::look(&row, chance.next()));
-    }
-}
-
-// Fills a row with any numbers: small ones for the most part, so that many name nodes and some lie past the end.
-fn fill(chance: &mut Chance, row: &mut [u32]) {
-    for number in row.iter_mut() {
-        let drawn = chance.next();
-        *number = if drawn % 16 == 0 {
-            drawn
-        } else {
-            drawn / 16 % 24
+fn run(rt: &LibcRuntime) -> Result<(), AnyError> {
+    let mut chance = chance::Chance::from_seed(20_261_117);
+    for room in ROOMS {
+        let Some(run) = tables::change_and_compare(rt.alloc(), &mut chance, room, CHANGES) else {
+            return Err("no memory for a table".into());
         };
+        let tables::Run {
+            ready,
+            compared,
+            differences,
+        } = run;
+        println!(
+            rt,
+            "room {room}: {ready} changes, {compared} compared, differences {differences}"
+        )?;
     }
+    let seen = damage::look_everywhere(&mut chance);
+    let (to, nowhere) = (seen.to, seen.nowhere);
+    println!(rt, "damaged rows: {to} lookups found a hop, {nowhere} none")?;
+    Ok(())
 }
