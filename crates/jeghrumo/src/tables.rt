@@ -10,6 +10,7 @@ use routes::Extent;
 use std::alloc::Global;
 use table::Change;
 use table::Done;
+use table::Table;
 use text::Reply;
 
 // What a route takes of the row: its bits, its length and its hop.
@@ -38,14 +39,18 @@ pub(crate) fn look(row: &[u32], address: u32) -> Reply
 pub(crate) fn put(row: &mut [u32], bits: u32, len: u64, hop: u64) -> Reply
     ensures { λ r. ⌜ Change-serves (now (row .entry)) (now (row .exit)) (Put bits len hop) len hop r ⌝ }
 {
-    replied(table::apply(row, Change::Put { bits, len, hop }), len, hop)
+    let mut table = Table::over(row);
+    let done = table.apply(Change::Put { bits, len, hop });
+    replied(done, len, hop)
 }
 
 // Takes a route away.
 pub(crate) fn away(row: &mut [u32], bits: u32, len: u64) -> Reply
     ensures { λ r. ⌜ Change-serves (now (row .entry)) (now (row .exit)) (Away bits len) len 0 r ⌝ }
 {
-    replied(table::apply(row, Change::Away { bits, len }), len, 0)
+    let mut table = Table::over(row);
+    let done = table.apply(Change::Away { bits, len });
+    replied(done, len, 0)
 }
 
 // What is said of a change. A refusal names its place: 1 the length, 2 the hop.

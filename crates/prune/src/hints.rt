@@ -6,7 +6,7 @@ ghost use Rattle.std.specs.declared.option.Option.the-variants.{Some, None};
 ghost use Rattle.prune.specs.Free.{Names};
 
 // The place of the cell that names a node.
-pub fn hinted(nodes: &[u32], count: u32, hints: usize, node: u32) -> Option<usize>
+pub(crate) fn hinted(nodes: &[u32], count: u32, hints: usize, node: u32) -> Option<usize>
     requires { ⌜ 32 * count ≤ length (now nodes) ⌝ }
     ensures { λ r. ⌜ elim r [ Some p ↦ Names (now (nodes .entry)) count node p | None ↦ Unit ] ⌝ }
 {
@@ -36,7 +36,7 @@ fn set_hint(nodes: &mut [u32], count: u32, hints: usize, node: u32, place: usize
 }
 
 // Writes the hints of the nodes that a node names.
-pub fn set_children(nodes: &mut [u32], count: u32, hints: usize, node: u32)
+pub(crate) fn set_children(nodes: &mut [u32], count: u32, hints: usize, node: u32)
     requires long { ⌜ 32 * count ≤ length (now nodes) ⌝ }
     requires here { ⌜ node < count ⌝ }
     ensures { λ _. ⌜ ((x : ℕ) → x < 32 * count → getD (now (nodes .exit)) x 0 ≡ getD (now (nodes .entry)) x 0) ⌝ }
@@ -51,7 +51,7 @@ pub fn set_children(nodes: &mut [u32], count: u32, hints: usize, node: u32)
 }
 
 // After a move: the hint of the moved node, and of those that it names.
-pub fn set_moved(nodes: &mut [u32], count: u32, hints: usize, node: u32, place: usize)
+pub(crate) fn set_moved(nodes: &mut [u32], count: u32, hints: usize, node: u32, place: usize)
     requires long { ⌜ 32 * count ≤ length (now nodes) ⌝ }
     requires here { ⌜ node < count ⌝ }
     ensures { λ _. ⌜ ((x : ℕ) → x < 32 * count → getD (now (nodes .exit)) x 0 ≡ getD (now (nodes .entry)) x 0) ⌝ }

@@ -7,6 +7,7 @@ pub mod laws;
 mod lends;
 mod makes;
 mod parts;
+mod tables;
 mod words;
 
 pub use entries::Change;
@@ -21,3 +22,4 @@ pub use entries::take_away;
 pub use makes::Misfit;
 pub use makes::make_empty;
 pub use makes::row_length;
+pub use tables::Table;
