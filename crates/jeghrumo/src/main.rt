@@ -100,16 +100,14 @@ fn execute<W: Write>(
     }
 }
 
-// Prints the routes beneath a prefix, in their order, and how many they are.
+// Prints the routes beneath a prefix, in their order, from the part of the row in which they stand, and how many they are.
 fn beneath<W: Write>(out: &mut W, row: &[u32], bits: u32, len: u64) -> io::Result<()> {
-    let mut found = 0u64;
-    for k in 0..tables::count(row) {
-        if let Some(route) = tables::beneath(row, k, bits, len) {
-            reply(out, route)?;
-            found = found.saturating_add(1);
-        }
+    let (routes, _) = beneath::beneath(row, bits, len).as_chunks::<3>();
+    for [bits, len, hop] in routes {
+        let (bits, len, hop) = (*bits, *len as u64, *hop as u64);
+        reply(out, Reply::Route { bits, len, hop })?;
     }
-    reply(out, Reply::Beneath(found))
+    reply(out, Reply::Beneath(routes.len() as u64))
 }
 
 fn reply<W: Write>(out: &mut W, reply: Reply) -> io::Result<()> {

@@ -4,17 +4,11 @@ ghost use Rattle.prefix.specs.Routes.{answer};
 ghost use Rattle.table.specs.Right.{Right, listed};
 ghost use Rattle.table.specs.declared.entries.Change.the-variants.{Put, Away};
 ghost use Rattle.jeghrumo.specs.Served.{told, reply-of, Change-serves};
-use prefix::Prefix;
-use prefix::U32Key;
-use routes::Extent;
 use std::alloc::Global;
 use table::Change;
 use table::Done;
 use table::Table;
 use text::Reply;
-
-// What a route takes of the row: its bits, its length and its hop.
-const STRIDE: usize = 3;
 
 // A row for so many routes, or none where there is no memory for it.
 pub(crate) fn make(heap: Global, room: u64) -> Option<Vec<u32>> {
@@ -68,29 +62,4 @@ fn replied(done: Done, len: u64, hop: u64) -> Reply
             Reply::Refused { number, place }
         }
     }
-}
-
-// How many routes there are.
-pub(crate) fn count(row: &[u32]) -> usize {
-    Extent::of::<u32>(row, STRIDE).count
-}
-
-// Route k, where it lies beneath a prefix.
-pub(crate) fn beneath(row: &[u32], k: usize, bits: u32, len: u64) -> Option<Reply> {
-    let (prefix, hop) = routes::route(row, STRIDE, k)?;
-    if len > 32 {
-        return None;
-    }
-    let above = Prefix {
-        bits,
-        len: len as u32,
-    };
-    if !above.covers(prefix) {
-        return None;
-    }
-    Some(Reply::Route {
-        bits: prefix.bits,
-        len: prefix.len as u64,
-        hop: hop as u64,
-    })
 }
