@@ -8,7 +8,8 @@ use Rattle.prefix.specs.Routes.{Route, answer, put, away, held, Same-members}
 use Rattle.prefix.specs.Laws.{restore}
 use Rattle.prefix.proofs.Theorems.{any-order, only-there, undone}
 use Rattle.table.specs.Right.{Right, listed}
-use Rattle.table.specs.Laws.{answers, Order-free, Matters-only-there, Undone-by-inverse}
+use Rattle.table.specs.Answers.{answers}
+use Rattle.table.specs.Laws.{Order-free, Matters-only-there, Undone-by-inverse}
 use Rattle.table.proofs.Means.{right-means}
 
 -- what a right table answers is what any list of the same members does

@@ -3,17 +3,12 @@ use mathlib.Core.Path.{_≡_}
 use mathlib.Core.Bool.{false}
 use mathlib.Core.List.{List}
 use mathlib.Core.Logic.{_⊎_}
-use Prim.Native.Nat.{ℕ, _*_, _^_, _<_}
+use Prim.Native.Nat.{ℕ, _^_, _<_}
 use Rattle.prefix.specs.Words.{width}
 use Rattle.prefix.specs.Routes.{Route, matches, put, away, held, Same-members}
-use Rattle.prefix.specs.Map.{or-else}
 use Rattle.prefix.specs.Laws.{restore}
-use Rattle.trie.specs.Nodes.{nibbles, looked}
-use Rattle.table.specs.Right.{Right, listed, default, trie}
-
--- what a table answers: what its trie says to the key, or its default
-abbrev pub answers : (words : ℕ) (row : List ℕ) (x : ℕ) → ℕ
-answers words row x = or-else (looked (trie words row) 0 (nibbles (width words) (8 * words) x) 0) (default words row)
+use Rattle.table.specs.Right.{Right, listed}
+use Rattle.table.specs.Answers.{answers}
 
 -- the order in which routes came does not matter to any answer
 abbrev pub Order-free : Type 0

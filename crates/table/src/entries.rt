@@ -5,7 +5,7 @@ ghost use Rattle.std.specs.Options.{Cases as BySome};
 ghost use Rattle.prefix.specs.Routes.{answer, route-of, good-prefix};
 ghost use Rattle.table.specs.Right.{Right, Sound, listed, nodes};
 ghost use Rattle.table.specs.Follows.{Front};
-ghost use Rattle.table.specs.Answers.{told};
+ghost use Rattle.table.specs.Answers.{told, found};
 ghost use Rattle.table.specs.Entries.{refusal, Put-entry-says, Take-away-says, Apply-says, Carried-out};
 use crate::anew::rebuild;
 use crate::changes::away;
@@ -36,9 +36,10 @@ pub enum Change {
 // The largest hop that there is.
 const LAST_HOP: u64 = 65_535;
 
-// Where the longest route that matches the address sends it. In a right table the trie answers as the list does.
+// Where the longest route that matches the address sends it. In a right table the trie answers as the list does; any other row is gone through as it is.
 pub fn look(table: &[u32], x: u32) -> Done
-    ensures { λ r. ⌜ (Right 1 (now (table .entry)) → r ≡ told (answer 32 (listed 1 (now (table .entry))) x)) ⌝ }
+    ensures value { λ r. ⌜ r ≡ told (found 1 (now (table .entry)) x) ⌝ }
+    ensures right { λ r. ⌜ (Right 1 (now (table .entry)) → r ≡ told (answer 32 (listed 1 (now (table .entry))) x)) ⌝ }
 {
     found(lookup(table, x))
 }
@@ -106,7 +107,7 @@ pub fn carry_out(table: &mut [u32], changes: &[Change])
 
 // How many nodes the trie of a table has; 0 where the row has not the parts of a table.
 pub fn nodes(table: &[u32]) -> u32
-    ensures { λ r. ⌜ (Right 1 (now (table .entry)) → r ≡ nodes 1 (now (table .entry))) ⌝ }
+    ensures { λ r. ⌜ r ≡ nodes 1 (now (table .entry)) ⌝ }
 {
     match default_place::<u32>(table) {
         Some(at) => table[at + 1],

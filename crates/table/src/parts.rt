@@ -7,12 +7,14 @@ ghost use Rattle.prefix.specs.Words.{width};
 ghost use Rattle.prefix.specs.Routes.{answer};
 ghost use Rattle.prefix.specs.Map.{or-else};
 ghost use Rattle.table.specs.Right.{Right, room, default-at, listed};
+ghost use Rattle.table.specs.Answers.{found};
 use prefix::Key;
 use trie::Trie;
 
 // The hop of the longest route that matches the key, and one more, or 0.
 pub(crate) fn lookup<K: Key>(table: &[u32], key: K) -> u32
-    ensures { λ r. ⌜ (Right (K·Key .words) (now (table .entry)) → r ≡ answer (width (K·Key .words)) (listed (K·Key .words) (now (table .entry))) (K·Key .num key)) ⌝ }
+    ensures value { λ r. ⌜ r ≡ found (K·Key .words) (now (table .entry)) (K·Key .num key) ⌝ }
+    ensures right { λ r. ⌜ (Right (K·Key .words) (now (table .entry)) → r ≡ answer (width (K·Key .words)) (listed (K·Key .words) (now (table .entry))) (K·Key .num key)) ⌝ }
 {
     let Some(at) = default_place::<K>(table) else {
         return 0;

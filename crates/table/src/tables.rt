@@ -6,7 +6,7 @@ ghost use Rattle.prefix.specs.Routes.{answer, route-of};
 ghost use Rattle.routes.specs.Rows.{count-in, room-in};
 ghost use Rattle.table.specs.Right.{Right, Sound, stride, listed, nodes};
 ghost use Rattle.table.specs.Follows.{Front};
-ghost use Rattle.table.specs.Answers.{told};
+ghost use Rattle.table.specs.Answers.{told, found};
 ghost use Rattle.table.specs.Entries.{refusal, Put-entry-says, Take-away-says, Apply-says, Carried-out};
 use crate::entries;
 use crate::entries::Change;
@@ -30,7 +30,8 @@ impl<'a> Table<'a> {
 
     // Where the longest route that matches the address sends it.
     pub fn look(&self, x: u32) -> Done
-        ensures { λ r. ⌜ (Right 1 (now (now (self .entry) .row)) → r ≡ told (answer 32 (listed 1 (now (now (self .entry) .row))) x)) ⌝ }
+        ensures value { λ r. ⌜ r ≡ told (found 1 (now (now (self .entry) .row)) x) ⌝ }
+        ensures right { λ r. ⌜ (Right 1 (now (now (self .entry) .row)) → r ≡ told (answer 32 (listed 1 (now (now (self .entry) .row))) x)) ⌝ }
     {
         entries::look(self.row, x)
     }
@@ -45,7 +46,7 @@ impl<'a> Table<'a> {
 
     // How many nodes the trie has.
     pub fn nodes(&self) -> u32
-        ensures { λ r. ⌜ (Right 1 (now (now (self .entry) .row)) → r ≡ nodes 1 (now (now (self .entry) .row))) ⌝ }
+        ensures { λ r. ⌜ r ≡ nodes 1 (now (now (self .entry) .row)) ⌝ }
     {
         entries::nodes(self.row)
     }
