@@ -1,4 +1,5 @@
 // The program: it reads commands from standard input, one a line, and prints what the table answers to each.
+#![tactic(auto)]
 mod tables;
 
 use anyhow::anyhow;

@@ -1,4 +1,5 @@
 // The text side of a routing table, for the program that serves one: a line is read into a command or refused, and commands and addresses are written.
+#![tactic(auto)]
 mod addresses;
 mod laws;
 mod lines;
