@@ -12,18 +12,18 @@ after None P Q f p = tt
 pub returns-then-left-eq0 : goal.returns-then-left-eq0
 returns-then-left-eq0 g c =
     record {
-      right = λ m h. (closed c.args.count c.cut-off.new.free c.in-Some.left c.if-left-eq0.true (omega (arith, h.fits)) (c.in-Some.ensures.right m h), omega arith);
-      kept = λ m h a o. (refl, (c.cut-off.ensures.kept m h a (omega arith) o).1);
+      right = λ m h. (closed c.args.count c.cut_off.new.free c.in-Some.left c.if-left-eq0.true (omega (arith, h.fits)) (c.in-Some.ensures.right m h), omega arith);
+      kept = λ m h a o. (refl, (c.cut_off.ensures.kept m h a (omega arith) o).1);
     }
 
 pub returns-else-left-eq0 : goal.returns-else-left-eq0
 returns-else-left-eq0 g c =
     record {
       right =
-          after c.close-up.result _ _
-          (λ n p m h. let y = p (width g.K.Key.words) m (c.in-Some.ensures.right m h) in (y.0, omega (arith, y.1))) c.close-up.ensures;
+          after c.close_up.result _ _
+          (λ n p m h. let y = p (width g.K.Key.words) m (c.in-Some.ensures.right m h) in (y.0, omega (arith, y.1))) c.close_up.ensures;
       kept =
           λ m h a o.
-          let e : Some c.in-Some.left ≡ Some 0 = sym c.in-Some.is ∙ (c.cut-off.ensures.kept m h a (omega arith) o).0 in
+          let e : Some c.in-Some.left ≡ Some 0 = sym c.in-Some.is ∙ (c.cut_off.ensures.kept m h a (omega arith) o).0 in
           absurd (c.if-left-eq0.false (cc));
     }

@@ -9,16 +9,16 @@ loop-low-init g c =
     let n = length_routes g.K.Key.words c.args.stride c.args.row.now in
     (omega arith, omega arith, omega arith, λ h. absurd (omega arith), λ h. absurd (omega arith))
 
-pub overflow-add-middle : goal.overflow-add-middle
-overflow-add-middle g c =
+pub overflow_add-middle : goal.overflow_add-middle
+overflow_add-middle g c =
     let n = length_routes g.K.Key.words c.args.stride c.args.row.now in
     let low = count_low g.K.Key.words c.args.stride c.args.row.now in
-    let fits = c.type-inv.row 0 in
+    let fits = c.type_inv.row 0 in
     record { fits = omega arith }
 
-pub overflow-add-low : goal.overflow-add-low
-overflow-add-low g c =
+pub overflow_add-low : goal.overflow_add-low
+overflow_add-low g c =
     let n = length_routes g.K.Key.words c.args.stride c.args.row.now in
     let low = count_low g.K.Key.words c.args.stride c.args.row.now in
-    let fits = c.type-inv.row 0 in
+    let fits = c.type_inv.row 0 in
     record { fits = omega arith }

@@ -8,16 +8,16 @@ use Rattle.beneath.proofs.parts.part.Goals as goal
 
 pub returns-then-from-to : goal.returns-then-from-to
 returns-then-from-to g c =
-    part_of_span g.K.Key.words c.args.stride c.args.row.now c.args.prefix.len (g.K.Key.num c.args.prefix.bits) c.span-of-from.result.from c.span-of-from.result.to [] c.span-of-from.ensures (none_taken c.args.stride c.args.row.now c.span-of-from.result.from c.span-of-from.result.to c.if-from-to.true)
+    part_of_span g.K.Key.words c.args.stride c.args.row.now c.args.prefix.len (g.K.Key.num c.args.prefix.bits) c.span_of-from.result.from c.span_of-from.result.to [] c.span_of-from.ensures (none_taken c.args.stride c.args.row.now c.span_of-from.result.from c.span_of-from.result.to c.if-from-to.true)
 
 pub lend-requires : goal.lend-requires
 lend-requires g c =
     let n = length_routes g.K.Key.words c.args.stride c.args.row.now in
-    let after = c.span-of-from.ensures.after in
-    let within = c.span-of-from.ensures.within in
-    let same : c.span-of-from.result.to ≡ c.span-of-from.result.from + (c.span-of-from.result.to - c.span-of-from.result.from) = omega arith in
-    subst (λ (k : ℕ). slot c.args.stride k ≤ length c.args.row.now) same (end_inside g.K.Key.words c.args.stride c.args.row.now c.span-of-from.result.to (omega arith) (omega arith))
+    let after = c.span_of-from.ensures.after in
+    let within = c.span_of-from.ensures.within in
+    let same : c.span_of-from.result.to ≡ c.span_of-from.result.from + (c.span_of-from.result.to - c.span_of-from.result.from) = omega arith in
+    subst (λ (k : ℕ). slot c.args.stride k ≤ length c.args.row.now) same (end_inside g.K.Key.words c.args.stride c.args.row.now c.span_of-from.result.to (omega arith) (omega arith))
 
 pub returns : goal.returns
 returns g c =
-    part_of_span g.K.Key.words c.args.stride c.args.row.now c.args.prefix.len (g.K.Key.num c.args.prefix.bits) c.span-of-from.result.from c.span-of-from.result.to _ c.span-of-from.ensures c.lend.ensures
+    part_of_span g.K.Key.words c.args.stride c.args.row.now c.args.prefix.len (g.K.Key.num c.args.prefix.bits) c.span_of-from.result.from c.span_of-from.result.to _ c.span_of-from.ensures c.lend.ensures

@@ -11,8 +11,8 @@ use Rattle.capi.proofs.entries.jeghrumo_beneath.Goals as goal
 from_low : (row : List ℕ) (len bits from to : ℕ) → get_or row 0 0 < 2 ^ 32 → SpanSays 1 3 row len bits from to → from < 2 ^ 32
 from_low row len bits from to low span = omega (arith, length_routes 1 3 row, count_low 1 3 row, span.after, span.within)
 
-pub overflow-mul-result : goal.overflow-mul-result
-overflow-mul-result c = let low = from_low c.args.row.now _ _ _ _ (c.type-inv.row 0).fits c.beneath-span-from.ensures in record { fits = omega arith }
+pub overflow_mul-result : goal.overflow_mul-result
+overflow_mul-result c = let low = from_low c.args.row.now _ _ _ _ (c.type_inv.row 0).fits c.beneath_span-from.ensures in record { fits = omega arith }
 
-pub overflow-add-result : goal.overflow-add-result
-overflow-add-result c = let low = from_low c.args.row.now _ _ _ _ (c.type-inv.row 0).fits c.beneath-span-from.ensures in record { fits = omega arith }
+pub overflow_add-result : goal.overflow_add-result
+overflow_add-result c = let low = from_low c.args.row.now _ _ _ _ (c.type_inv.row 0).fits c.beneath_span-from.ensures in record { fits = omega arith }

@@ -5,10 +5,10 @@ use Rattle.grow.proofs.making.link_new.Goals as goal
 
 pub returns : goal.returns
 returns c =
-    let here = c.clear-node.auto.nodes in
-    let there = c.leave-hint.auto.nodes in
+    let here = c.clear_node.auto.nodes in
+    let there = c.leave_hint.auto.nodes in
     record {
       made =
-          (refl, refl, linked c.args.nodes.now c.clear-node.new.nodes c.leave-hint.new.nodes c.args.count c.args.at (omega arith) (omega arith) c.clear-node.ensures.blank c.clear-node.ensures.before c.leave-hint.ensures);
+          (refl, refl, linked c.args.nodes.now c.clear_node.new.nodes c.leave_hint.new.nodes c.args.count c.args.at (omega arith) (omega arith) c.clear_node.ensures.blank c.clear_node.ensures.before c.leave_hint.ensures);
       enough = λ a b. refl;
     }

@@ -8,4 +8,4 @@ returns-then-next-ne0 c = record { way = λ w m l q d h long short e. step_named
 
 pub returns : goal.returns
 returns c =
-    record { way = λ w m l q d h long short e. onward c.link-new.result (λ p x. step_linked l q d long h _ e c.if-next-ne0.false short x) c.link-new.ensures.made; enough = λ a b. let x = b c.if-next-ne0.false in c.link-new.ensures.enough x.0 x.1 }
+    record { way = λ w m l q d h long short e. onward c.link_new.result (λ p x. step_linked l q d long h _ e c.if-next-ne0.false short x) c.link_new.ensures.made; enough = λ a b. let x = b c.if-next-ne0.false in c.link_new.ensures.enough x.0 x.1 }

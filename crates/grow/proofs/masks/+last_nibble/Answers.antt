@@ -20,6 +20,6 @@ returns g t c =
     let some = g.met.K.Key.some in
     record {
       small = fits_width (width g.K.Key.words) (g.K.Key.num c.args.rest) (omega arith) (omega arith);
-      below = c.last-nibble.ensures.below;
-      ends = λ l q d x. c.last-nibble.ensures.ends l q (d + 1) (ahead_on x c.if-len-le4.false _ c.rest.ensures);
+      below = c.last_nibble.ensures.below;
+      ends = λ l q d x. c.last_nibble.ensures.ends l q (d + 1) (ahead_on x c.if-len-le4.false _ c.rest.ensures);
     }

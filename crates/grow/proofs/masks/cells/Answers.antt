@@ -8,13 +8,13 @@ use Rattle.grow.proofs.masks.cells.Goals as goal
 pub returns : goal.returns
 returns g c =
     let l : ℕ = c.args.prefix.len in
-    let nibble : ℕ = c.last-nibble-nibble.result in
+    let nibble : ℕ = c.last_nibble-nibble.result in
     let r : 4 - ((l - 1) % 4 + 1) ≡ 4 * depth_of l + 4 - l = omega arith in
     record {
       bits =
           λ some short.
           ending_cells l _ (depth_of l) _ nibble (omega arith) (omega arith)
-          (c.last-nibble-nibble.ensures.ends _ _ 0 (ahead_start _ _ _ some short c.last-nibble-nibble.ensures.small))
+          (c.last_nibble-nibble.ensures.ends _ _ 0 (ahead_start _ _ _ some short c.last_nibble-nibble.ensures.small))
           (λ k h. c.covered.ensures.bits k h ∙ ap (λ (x : ℕ). eqb (k / 2 ^ x) (nibble / 2 ^ x)) r);
       count = λ some short. c.covered.ensures.count ∙ ap (λ (x : ℕ). 2 ^ x) r;
       none = λ e. absurd (c.if-prefix-eq0.false e);

@@ -33,14 +33,14 @@ ones_block : (n k : ℕ) → ones ((2 ^ n - 1) * 2 ^ k) ≡ n
 unfolding ones
 ones_block n k = ap ones (sym (add-zero ((2 ^ n - 1) * 2 ^ k))) ∙ ones_cat k (2 ^ n - 1) 0 (pow_pos k) ∙ add-zero (ones (2 ^ n - 1)) ∙ ones-ones n
 
-pub overflow-shl-result : goal.overflow-shl-result
-overflow-shl-result c = ltb→lt (many c.args.len) 32 (at (λ i. ltb (many i) 32) 5 tt c.args.len (omega arith))
+pub overflow_shl-result : goal.overflow_shl-result
+overflow_shl-result c = ltb→lt (many c.args.len) 32 (at (λ i. ltb (many i) 32) 5 tt c.args.len (omega arith))
 
-pub overflow-sub-result : goal.overflow-sub-result
-overflow-sub-result c = ltb→lt 0 ((1 * 2 ^ many c.args.len) % 4294967296) (at (λ i. ltb 0 ((1 * 2 ^ many i) % 4294967296)) 5 tt c.args.len (omega arith))
+pub overflow_sub-result : goal.overflow_sub-result
+overflow_sub-result c = ltb→lt 0 ((1 * 2 ^ many c.args.len) % 4294967296) (at (λ i. ltb 0 ((1 * 2 ^ many i) % 4294967296)) 5 tt c.args.len (omega arith))
 
-pub overflow-cast-result : goal.overflow-cast-result
-overflow-cast-result c = record { fits = ltb→lt (mask c.args.len c.args.nibble) 65536 (small_all c.args.len c.args.nibble (omega arith) c.requires.0) }
+pub overflow_cast-result : goal.overflow_cast-result
+overflow_cast-result c = record { fits = ltb→lt (mask c.args.len c.args.nibble) 65536 (small_all c.args.len c.args.nibble (omega arith) c.requires.0) }
 
 pub returns : goal.returns
 unfolding right_bits

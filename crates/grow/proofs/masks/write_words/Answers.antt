@@ -5,7 +5,7 @@ use Rattle.grow.proofs.Words.{word_more}
 use Rattle.grow.proofs.masks.write_words.Goals as goal
 
 pub loop-k-preserved : goal.loop-k-preserved
-loop-k-preserved c = word_more _ _ _ _ _ _ (omega arith) c.loop-k.invariant _ _ c.has.ensures c.write-word.ensures
+loop-k-preserved c = word_more _ _ _ _ _ _ (omega arith) c.loop-k.invariant _ _ c.has.ensures c.write_word.ensures
 
 pub returns : goal.returns
 returns c =

@@ -16,8 +16,8 @@ pub returns-in-help : goal.returns-in-help
 unfolding ordered
 returns-in-help c = sym (ap ordered c.in-help.is)
 
-pub returns-in-default : goal.returns-in-default
+pub returns-in_default : goal.returns-in_default
 unfolding ordered
-returns-in-default c =
-    rw (differs c.args.line.now (codes "list") c.in-default.not-list, differs c.args.line.now (codes "nodes") c.in-default.not-nodes, differs c.args.line.now (codes "help") c.in-default.not-help)
+returns-in_default c =
+    rw (differs c.args.line.now (codes "list") c.in_default.not-list, differs c.args.line.now (codes "nodes") c.in_default.not-nodes, differs c.args.line.now (codes "help") c.in_default.not-help)
     c.asked.ensures

@@ -12,7 +12,7 @@ returns-then-high-behind-eq0 g t c =
     let wide : 4 ≤ width g.K.Key.words = omega arith in
     let e = zero_short (width g.K.Key.words) c.args.len x _ _ _ c.if-len-lt4.true wide c.nibble-high.ensures.value c.behind.ensures c.rest.ensures in
     let zero = eq-eqb _ _ c.if-high-behind-eq0.true in
-    record { small = fits_width _ x wide (omega arith); value = c.is-zero.ensures ∙ (rw zero at e) }
+    record { small = fits_width _ x wide (omega arith); value = c.is_zero.ensures ∙ (rw zero at e) }
 
 pub returns-else-high-behind-eq0 : goal.returns-else-high-behind-eq0
 returns-else-high-behind-eq0 g t c =

@@ -11,20 +11,20 @@ use Rattle.routes.proofs.edits.add_at.Goals as goal
 forward : (c-k stride count : ℕ) → c-k ≤ count → slot stride c-k ≤ slot stride count
 forward k stride count h = omega (arith, slots_rise stride k count h)
 
-pub slice-bounds-open-gap-count : goal.slice-bounds-open-gap-count
-slice-bounds-open-gap-count g c =
+pub slice_bounds-open_gap-count : goal.slice_bounds-open_gap-count
+slice_bounds-open_gap-count g c =
     let low = count_low g.K.Key.words c.args.stride c.args.row.now in
     let f = forward c.args.k c.args.stride (get_or c.args.row.now 0 0) (omega arith) in
     omega arith
 
-pub slice-bounds-open-gap-start : goal.slice-bounds-open-gap-start
-slice-bounds-open-gap-start g c =
+pub slice_bounds-open_gap-start : goal.slice_bounds-open_gap-start
+slice_bounds-open_gap-start g c =
     let low = count_low g.K.Key.words c.args.stride c.args.row.now in
     let f = forward c.args.k c.args.stride (get_or c.args.row.now 0 0) (omega arith) in
     search rules
 
-pub open-gap-requires : goal.open-gap-requires
-open-gap-requires g c =
+pub open_gap-requires : goal.open_gap-requires
+open_gap-requires g c =
     let low = count_low g.K.Key.words c.args.stride c.args.row.now in
     let f = forward c.args.k c.args.stride (get_or c.args.row.now 0 0) (omega arith) in
     search rules
@@ -33,6 +33,6 @@ pub returns : goal.returns
 returns g c =
     let low = count_low g.K.Key.words c.args.stride c.args.row.now in
     let f = forward c.args.k c.args.stride (get_or c.args.row.now 0 0) (omega arith) in
-    let o = lent_opened c.args.stride c.slot-at-at.result c.slot-at.result c.args.row.now _ c.open-gap.new.part (omega arith) c.slot-at.ensures.within refl c.open-gap.auto.part c.open-gap.ensures in
-    added_by g.K.Key.words c.args.stride c.args.row.now _ c.write-at.new.row c.args.k _ _ _ _ _ c.requires.place c.requires.room c.slot-at-at.ensures.value c.slot-at.ensures.value
-    (c.write-at.auto.row ∙ same_len_mid _ _ _ _ c.open-gap.auto.part) o c.write-at.ensures
+    let o = lent_opened c.args.stride c.slot_at-at.result c.slot_at.result c.args.row.now _ c.open_gap.new.part (omega arith) c.slot_at.ensures.within refl c.open_gap.auto.part c.open_gap.ensures in
+    added_by g.K.Key.words c.args.stride c.args.row.now _ c.write_at.new.row c.args.k _ _ _ _ _ c.requires.place c.requires.room c.slot_at-at.ensures.value c.slot_at.ensures.value
+    (c.write_at.auto.row ∙ same_len_mid _ _ _ _ c.open_gap.auto.part) o c.write_at.ensures

@@ -8,11 +8,11 @@ use Rattle.routes.proofs.Moves.{replaced}
 use Rattle.routes.proofs.Keeps.{put_replaced, put_added}
 use Rattle.routes.proofs.edits.insert.Goals as goal
 
-pub replace-at-requires : goal.replace-at-requires
-replace-at-requires g c = let n = length_routes g.K.Key.words c.args.stride c.args.row.now in omega (arith, c.in-Ok.ensures.within)
+pub replace_at-requires : goal.replace_at-requires
+replace_at-requires g c = let n = length_routes g.K.Key.words c.args.stride c.args.row.now in omega (arith, c.in-Ok.ensures.within)
 
-pub add-at-requires : goal.add-at-requires
-add-at-requires g c =
+pub add_at-requires : goal.add_at-requires
+add_at-requires g c =
     let n = length_routes g.K.Key.words c.args.stride c.args.row.now in
     let r = count_room g.K.Key.words c.args.stride c.args.row.now in
     record { place = omega (arith, c.in-Err.ensures.place.within); room = omega arith }
@@ -22,8 +22,8 @@ returns-in-Ok g c =
     let f = c.in-Ok.ensures in
     let n = length_routes g.K.Key.words c.args.stride c.args.row.now in
     let less : c.in-Ok.k < count_in g.K.Key.words c.args.stride c.args.row.now = omega (arith, f.within) in
-    let r = replaced g.K.Key.words c.args.stride c.args.row.now c.replace-at.new.row c.in-Ok.k (route_of (g.K.Key.num c.args.prefix.bits) c.args.prefix.len c.args.hop) less f.is_bits f.is_len c.replace-at.ensures.after in
-    let was = c.replace-at.ensures.was in
+    let r = replaced g.K.Key.words c.args.stride c.args.row.now c.replace_at.new.row c.in-Ok.k (route_of (g.K.Key.num c.args.prefix.bits) c.args.prefix.len c.args.hop) less f.is_bits f.is_len c.replace_at.ensures.after in
+    let was = c.replace_at.ensures.was in
     record {
       says = (c.in-Ok.k, f, sym was, r);
       keeps = put_replaced _ _ _ c.in-Ok.k _ f r.list (ap (λ (x : Route). x.hop) (getD_routes g.K.Key.words c.args.stride c.args.row.now c.in-Ok.k less) ∙ sym was);
@@ -36,4 +36,4 @@ returns-then-count-room g c =
 pub returns-else-count-room : goal.returns-else-count-room
 returns-else-count-room g c =
     let m = c.in-Err.ensures in
-    record { says = (c.in-Err.k, m, c.add-at.ensures); keeps = λ order. put_added _ _ c.in-Err.k m order _ c.add-at.ensures.list }
+    record { says = (c.in-Err.k, m, c.add_at.ensures); keeps = λ order. put_added _ _ c.in-Err.k m order _ c.add_at.ensures.list }

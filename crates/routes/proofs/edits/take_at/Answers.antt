@@ -10,20 +10,20 @@ use Rattle.routes.proofs.edits.take_at.Goals as goal
 forward : (k stride count : ℕ) → k < count → slot stride k ≤ slot stride (count - 1)
 forward k stride count h = omega (arith, slots_rise stride k (count - 1) (omega arith))
 
-pub slice-bounds-close-gap-count : goal.slice-bounds-close-gap-count
-slice-bounds-close-gap-count g c =
+pub slice_bounds-close_gap-count : goal.slice_bounds-close_gap-count
+slice_bounds-close_gap-count g c =
     let low = count_low g.K.Key.words c.args.stride c.args.row.now in
     let f = forward c.args.k c.args.stride (get_or c.args.row.now 0 0) (omega arith) in
     omega arith
 
-pub slice-bounds-close-gap-start : goal.slice-bounds-close-gap-start
-slice-bounds-close-gap-start g c =
+pub slice_bounds-close_gap-start : goal.slice_bounds-close_gap-start
+slice_bounds-close_gap-start g c =
     let low = count_low g.K.Key.words c.args.stride c.args.row.now in
     let f = forward c.args.k c.args.stride (get_or c.args.row.now 0 0) (omega arith) in
     search rules
 
-pub close-gap-requires : goal.close-gap-requires
-close-gap-requires g c =
+pub close_gap-requires : goal.close_gap-requires
+close_gap-requires g c =
     let low = count_low g.K.Key.words c.args.stride c.args.row.now in
     let f = forward c.args.k c.args.stride (get_or c.args.row.now 0 0) (omega arith) in
     search rules
@@ -33,10 +33,10 @@ returns g c =
     let low = count_low g.K.Key.words c.args.stride c.args.row.now in
     let f = forward c.args.k c.args.stride (get_or c.args.row.now 0 0) (omega arith) in
     let last : get_or c.args.row.now 0 0 ≡ get_or c.args.row.now 0 0 - 1 + 1 = omega arith in
-    let end : c.slot-at.result + c.args.stride ≡ slot c.args.stride (get_or c.args.row.now 0 0) =
+    let end : c.slot_at.result + c.args.stride ≡ slot c.args.stride (get_or c.args.row.now 0 0) =
     omega (arith, mul_add_one c.args.stride (get_or c.args.row.now 0 0 - 1), ap (λ (m : ℕ). c.args.stride * m) last) in
-    let o = lent_closed c.args.stride c.slot-at-at.result (c.slot-at.result + c.args.stride) c.args.row.now _ c.close-gap.new.part (omega arith) c.slot-at.ensures.within refl c.close-gap.auto.part c.close-gap.ensures in
+    let o = lent_closed c.args.stride c.slot_at-at.result (c.slot_at.result + c.args.stride) c.args.row.now _ c.close_gap.new.part (omega arith) c.slot_at.ensures.within refl c.close_gap.auto.part c.close_gap.ensures in
     record {
-      was = c.hop-at-was.ensures;
-      after = taken_by g.K.Key.words c.args.stride c.args.row.now _ c.args.k _ _ c.requires c.slot-at-at.ensures.value end (same_len_mid _ _ _ _ c.close-gap.auto.part) o;
+      was = c.hop_at-was.ensures;
+      after = taken_by g.K.Key.words c.args.stride c.args.row.now _ c.args.k _ _ c.requires c.slot_at-at.ensures.value end (same_len_mid _ _ _ _ c.close_gap.auto.part) o;
     }

@@ -9,4 +9,4 @@ returns-then-k-of g c = let n = length_routes g.K.Key.words c.args.stride c.args
 pub returns : goal.returns
 returns g c =
     let n = length_routes g.K.Key.words c.args.stride c.args.row.now in
-    (omega arith, read_as g.K.Key.words c.args.stride c.args.row.now c.args.k _ _ _ (omega arith) c.prefix-at.ensures.bits c.prefix-at.ensures.len c.hop-at.ensures)
+    (omega arith, read_as g.K.Key.words c.args.stride c.args.row.now c.args.k _ _ _ (omega arith) c.prefix_at.ensures.bits c.prefix_at.ensures.len c.hop_at.ensures)

@@ -16,7 +16,7 @@ pub loop-k-preserved : goal.loop-k-preserved
 loop-k-preserved g c =
     let rs : List Route = routes g.K.Key.words c.args.stride c.args.row.now in
     let n = length_routes g.K.Key.words c.args.stride c.args.row.now in
-    let read = read_as g.K.Key.words c.args.stride c.args.row.now c.loop-k.k _ _ _ (omega arith) c.prefix-at.ensures.bits c.prefix-at.ensures.len c.hop-at.ensures in
+    let read = read_as g.K.Key.words c.args.stride c.args.row.now c.loop-k.k _ _ _ (omega arith) c.prefix_at.ensures.bits c.prefix_at.ensures.len c.hop_at.ensures in
     sym (best_more (width g.K.Key.words) rs (g.K.Key.num c.args.key) _ _ c.loop-k.k _ _ _ (omega arith) read c.longer-best.ensures.long c.longer-best.ensures.hop) ∙ c.loop-k.invariant
 
 pub returns-in-Some : goal.returns-in-Some

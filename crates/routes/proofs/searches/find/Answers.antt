@@ -4,21 +4,21 @@ use Rattle.prefix.specs.Routes.{Route, route_of, same_prefix}
 use Rattle.routes.proofs.Lists.{length_routes, read_as}
 use Rattle.routes.proofs.Order.{found, missing}
 use Rattle.routes.proofs.searches.find.Goals as goal
-use Rattle.routes.proofs.searches.find.Goals.{else-k-of-via-then-k-of+else-is-same, else-k-of-via-else-k-of}
+use Rattle.routes.proofs.searches.find.Goals.{else-k-of-via-then-k-of+else-is_same, else-k-of-via-else-k-of}
 
-pub returns-then-is-same : goal.returns-then-is-same
-returns-then-is-same g c =
+pub returns-then-is_same : goal.returns-then-is_same
+returns-then-is_same g c =
     let n = length_routes g.K.Key.words c.args.stride c.args.row.now in
-    let read = read_as g.K.Key.words c.args.stride c.args.row.now c.lower-bound-k.result _ _ _ (omega arith) c.prefix-at.ensures.bits c.prefix-at.ensures.len refl in
-    found _ _ _ _ (omega arith) (rw (← read) (sym (c.if-is-same.ensures _ 0)))
+    let read = read_as g.K.Key.words c.args.stride c.args.row.now c.lower_bound-k.result _ _ _ (omega arith) c.prefix_at.ensures.bits c.prefix_at.ensures.len refl in
+    found _ _ _ _ (omega arith) (rw (← read) (sym (c.if-is_same.ensures _ 0)))
 
 pub returns : goal.returns
 returns g c =
     let n = length_routes g.K.Key.words c.args.stride c.args.row.now in
-    missing _ _ _ _ c.lower-bound-k.ensures
+    missing _ _ _ _ c.lower_bound-k.ensures
     (λ h. elim c.else-k-of.branch [
-      | else-k-of-via-then-k-of+else-is-same w ↦
-          (let read = read_as g.K.Key.words c.args.stride c.args.row.now c.lower-bound-k.result _ _ _ (omega arith) w.prefix-at.ensures.bits w.prefix-at.ensures.len refl in
-          rw (← read) (sym (w.if-is-same.ensures _ 0)))
+      | else-k-of-via-then-k-of+else-is_same w ↦
+          (let read = read_as g.K.Key.words c.args.stride c.args.row.now c.lower_bound-k.result _ _ _ (omega arith) w.prefix_at.ensures.bits w.prefix_at.ensures.len refl in
+          rw (← read) (sym (w.if-is_same.ensures _ 0)))
       | else-k-of-via-else-k-of w ↦ absurd (omega (arith, w.if-k-of.false))
     ])

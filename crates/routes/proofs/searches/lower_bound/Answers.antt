@@ -11,32 +11,32 @@ loop-low-init g c =
     let n = length_routes g.K.Key.words c.args.stride c.args.row.now in
     (omega arith, omega arith, λ h. absurd (omega arith), λ h. absurd (omega arith))
 
-pub overflow-add-middle : goal.overflow-add-middle
-overflow-add-middle g c =
+pub overflow_add-middle : goal.overflow_add-middle
+overflow_add-middle g c =
     let n = length_routes g.K.Key.words c.args.stride c.args.row.now in
     let low = count_low g.K.Key.words c.args.stride c.args.row.now in
-    let fits = c.type-inv.row 0 in
+    let fits = c.type_inv.row 0 in
     record { fits = omega arith }
 
-pub prefix-at-requires : goal.prefix-at-requires
-prefix-at-requires g c = let n = length_routes g.K.Key.words c.args.stride c.args.row.now in omega arith
+pub prefix_at-requires : goal.prefix_at-requires
+prefix_at-requires g c = let n = length_routes g.K.Key.words c.args.stride c.args.row.now in omega arith
 
-pub overflow-add-low : goal.overflow-add-low
-overflow-add-low g c =
+pub overflow_add-low : goal.overflow_add-low
+overflow_add-low g c =
     let n = length_routes g.K.Key.words c.args.stride c.args.row.now in
     let low = count_low g.K.Key.words c.args.stride c.args.row.now in
-    let fits = c.type-inv.row 0 in
+    let fits = c.type_inv.row 0 in
     record { fits = omega arith }
 
-pub loop-low-preserved-then-is-before : goal.loop-low-preserved-then-is-before
-loop-low-preserved-then-is-before g c =
+pub loop-low-preserved-then-is_before : goal.loop-low-preserved-then-is_before
+loop-low-preserved-then-is_before g c =
     let n = length_routes g.K.Key.words c.args.stride c.args.row.now in
     let middle : ℕ = c.loop-low.low + (c.loop-low.high - c.loop-low.low) / 2 in
-    let read = read_as g.K.Key.words c.args.stride c.args.row.now middle _ _ _ (omega arith) c.prefix-at.ensures.bits c.prefix-at.ensures.len refl in
+    let read = read_as g.K.Key.words c.args.stride c.args.row.now middle _ _ _ (omega arith) c.prefix_at.ensures.bits c.prefix_at.ensures.len refl in
     let back : middle + 1 - 1 ≡ middle = omega arith in (
       omega arith,
       c.loop-low.invariant.1,
-      λ h. rw (back, ← read) (sym (c.if-is-before.ensures 0 0)),
+      λ h. rw (back, ← read) (sym (c.if-is_before.ensures 0 0)),
       c.loop-low.invariant.3,
     )
 
@@ -44,9 +44,9 @@ pub loop-low-preserved : goal.loop-low-preserved
 loop-low-preserved g c =
     let n = length_routes g.K.Key.words c.args.stride c.args.row.now in
     let middle : ℕ = c.loop-low.low + (c.loop-low.high - c.loop-low.low) / 2 in
-    let read = read_as g.K.Key.words c.args.stride c.args.row.now middle _ _ _ (omega arith) c.prefix-at.ensures.bits c.prefix-at.ensures.len refl in (
+    let read = read_as g.K.Key.words c.args.stride c.args.row.now middle _ _ _ (omega arith) c.prefix_at.ensures.bits c.prefix_at.ensures.len refl in (
       omega arith,
       omega arith,
       c.loop-low.invariant.2,
-      λ h. rw (← read) (sym (c.if-is-before.ensures 0 0)),
+      λ h. rw (← read) (sym (c.if-is_before.ensures 0 0)),
     )

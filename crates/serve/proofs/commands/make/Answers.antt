@@ -17,9 +17,9 @@ converted (Err error) P n m e h = absurd (let z : ◌≡◌ {A = ℕ} 0 1 = cc i
 
 pub returns : goal.returns
 returns c =
-    let long = c.make-empty.auto.table in
+    let long = c.make_empty.auto.table in
     let lent = c.deref-mut.ensures.len in
-    let same = with_items_is c.in-ok-row.row c.make-empty.new.table (omega arith) in
-    let m = made _ c.make-empty.new.table c.in-ok-room.room c.make-empty.result _ c.in-ok-ok.ensures.value c.make-empty.ensures in
-    let fits = converted c.try-from.result _ c.in-ok-room.room c.args.wanted c.in-ok-room.ensures.value c.try-from.ensures in
+    let same = with_items_is c.in_ok-row.row c.make_empty.new.table (omega arith) in
+    let m = made _ c.make_empty.new.table c.in_ok-room.room c.make_empty.result _ c.in_ok-ok.ensures.value c.make_empty.ensures in
+    let fits = converted c.try_from.result _ c.in_ok-room.room c.args.wanted c.in_ok-room.ensures.value c.try_from.ensures in
     subst (λ (l : List ℕ). Right 1 l × (listed 1 l ≡ []) × (room l ≡ c.args.wanted)) (sym same) (m.0, m.1, m.2 ∙ fits)

@@ -24,7 +24,7 @@ loop-k-preserved g c =
       omega arith,
       λ plain.
           let before = c.loop-k.invariant.2 plain in
-          subst (λ (l : List ℕ). HasWritten g.W.Write.write_str_gives c.args.f.now l c.write-route.new.f) (sym (more ∙ line)) (put_then g.W.Write.write_str_gives c.args.f.now c.loop-k.f c.write-route.new.f _ _ before (c.in-ok-write-route.ensures before.plain refl)),
+          subst (λ (l : List ℕ). HasWritten g.W.Write.write_str_gives c.args.f.now l c.write_route.new.f) (sym (more ∙ line)) (put_then g.W.Write.write_str_gives c.args.f.now c.loop-k.f c.write_route.new.f _ _ before (c.in_ok-write_route.ensures before.plain refl)),
     )
 
 pub returns-after-loop-k : goal.returns-after-loop-k
@@ -33,6 +33,6 @@ returns-after-loop-k g c plain ok =
     let e : c.loop-k.k - c.args.from ≡ c.args.to - c.args.from = omega arith in
     subst (λ (n : ℕ). HasWritten g.W.Write.write_str_gives c.args.f.now (lines c.args.opening.now (take n (drop c.args.from (routes 1 3 c.args.row.now)))) c.loop-k.f) e (c.loop-k.invariant.2 plain)
 
-pub returns-in-default : goal.returns-in-default
-returns-in-default g c plain ok =
-    subst (λ (l : List ℕ). HasWritten g.W.Write.write_str_gives c.args.f.now l c.loop-k.f) (lines_all c.args.opening.now (routes 1 3 c.args.row.now) c.args.from c.loop-k.k c.args.to c.in-default.ensures (omega arith)) (c.loop-k.invariant.2 plain)
+pub returns-in_default : goal.returns-in_default
+returns-in_default g c plain ok =
+    subst (λ (l : List ℕ). HasWritten g.W.Write.write_str_gives c.args.f.now l c.loop-k.f) (lines_all c.args.opening.now (routes 1 3 c.args.row.now) c.args.from c.loop-k.k c.args.to c.in_default.ensures (omega arith)) (c.loop-k.invariant.2 plain)

@@ -4,18 +4,18 @@ use Rattle.std.proofs.lemmas.Bool.{both_ways}
 use Rattle.table.proofs.AnewSteps.{alike_trans}
 use Rattle.table.proofs.anew.enter_all.Goals as goal
 
-pub returns-then-not-enter-next : goal.returns-then-not-enter-next
-returns-then-not-enter-next g c =
+pub returns-then-not-enter_next : goal.returns-then-not-enter_next
+returns-then-not-enter_next g c =
     record {
-      alike = alike_trans g.K.Key.words c.args.table.now c.loop-k.table c.enter-next.new.table c.loop-k.invariant.0 c.enter-next.ensures.alike;
+      alike = alike_trans g.K.Key.words c.args.table.now c.loop-k.table c.enter_next.new.table c.loop-k.invariant.0 c.enter_next.ensures.alike;
       right = λ whole s is b.
-          absurd (both_ways _ c.if-not-enter-next.true (c.enter-next.ensures.right whole s (omega arith) (c.loop-k.invariant.1 whole s is b)).0);
+          absurd (both_ways _ c.if-not-enter_next.true (c.enter_next.ensures.right whole s (omega arith) (c.loop-k.invariant.1 whole s is b)).0);
     }
 
 pub loop-k-preserved : goal.loop-k-preserved
 loop-k-preserved g c = (
-  alike_trans g.K.Key.words c.args.table.now c.loop-k.table c.enter-next.new.table c.loop-k.invariant.0 c.enter-next.ensures.alike,
-  λ whole s is b. (c.enter-next.ensures.right whole s (omega arith) (c.loop-k.invariant.1 whole s is b)).1,
+  alike_trans g.K.Key.words c.args.table.now c.loop-k.table c.enter_next.new.table c.loop-k.invariant.0 c.enter_next.ensures.alike,
+  λ whole s is b. (c.enter_next.ensures.right whole s (omega arith) (c.loop-k.invariant.1 whole s is b)).1,
 )
 
 pub returns : goal.returns

@@ -3,9 +3,9 @@ use Rattle.std.proofs.Common.{◌+◌, set, arith}
 use Rattle.table.proofs.AnewSteps.{alike_trans, alike_front, alike_counted, begun_there, begun_last, begun_next}
 use Rattle.table.proofs.anew.enter_next.Goals as goal
 
-pub returns-in-default : goal.returns-in-default
-returns-in-default g c =
-    let none = rw c.words.ensures at c.in-default.ensures in
+pub returns-in_default : goal.returns-in_default
+returns-in_default g c =
+    let none = rw c.words.ensures at c.in_default.ensures in
     record {
       alike = alike_counted g.K.Key.words c.args.table.now (c.args.k + 1);
       right = λ whole s less b. absurd (omega (arith, begun_there g.K.Key.words whole c.args.table.now c.args.k s less b));
@@ -15,7 +15,7 @@ pub returns : goal.returns
 returns g c =
     let read = rw c.words.ensures at c.in-Some.ensures in
     record {
-      alike = alike_trans g.K.Key.words c.args.table.now (set c.args.table.now 0 (c.args.k + 1)) c.enter-last.new.table (alike_counted g.K.Key.words c.args.table.now (c.args.k + 1)) (alike_front g.K.Key.words _ _ c.enter-last.ensures.front);
-      right = λ whole s less b. begun_next g.K.Key.words whole c.args.table.now c.enter-last.new.table c.args.k _ _ _ c.enter-last.result s less b read.1 c.enter-last.ensures.front
-          (c.enter-last.ensures.right (begun_last g.K.Key.words whole c.args.table.now c.args.k _ _ _ s less b read.1));
+      alike = alike_trans g.K.Key.words c.args.table.now (set c.args.table.now 0 (c.args.k + 1)) c.enter_last.new.table (alike_counted g.K.Key.words c.args.table.now (c.args.k + 1)) (alike_front g.K.Key.words _ _ c.enter_last.ensures.front);
+      right = λ whole s less b. begun_next g.K.Key.words whole c.args.table.now c.enter_last.new.table c.args.k _ _ _ c.enter_last.result s less b read.1 c.enter_last.ensures.front
+          (c.enter_last.ensures.right (begun_last g.K.Key.words whole c.args.table.now c.args.k _ _ _ s less b read.1));
     }

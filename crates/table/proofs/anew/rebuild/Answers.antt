@@ -3,9 +3,9 @@ use Rattle.std.proofs.Common.{refl, arith}
 use Rattle.table.proofs.AnewSteps.{alike_trans, front_back, begun_all}
 use Rattle.table.proofs.anew.rebuild.Goals as goal
 
-pub returns-in-default : goal.returns-in-default
-returns-in-default g c =
-    record { front = record { long = refl; same = λ i h. refl }; right = λ s. absurd (omega (arith, c.in-default.ensures, s.long)) }
+pub returns-in_default : goal.returns-in_default
+returns-in_default g c =
+    record { front = record { long = refl; same = λ i h. refl }; right = λ s. absurd (omega (arith, c.in_default.ensures, s.long)) }
 
 pub returns-then-at-table : goal.returns-then-at-table
 returns-then-at-table g c =
@@ -14,9 +14,9 @@ returns-then-at-table g c =
 pub returns : goal.returns
 returns g c =
     record {
-      front = front_back g.K.Key.words c.args.table.now c.enter-all-done.new.table
-          (alike_trans g.K.Key.words c.args.table.now c.blank.new.table c.enter-all-done.new.table c.blank.ensures.alike c.enter-all-done.ensures.alike) (omega arith);
+      front = front_back g.K.Key.words c.args.table.now c.enter_all-done.new.table
+          (alike_trans g.K.Key.words c.args.table.now c.blank.new.table c.enter_all-done.new.table c.blank.ensures.alike c.enter_all-done.ensures.alike) (omega arith);
       right = λ s.
-          let e = c.enter-all-done.ensures.right c.args.table.now s refl (c.blank.ensures.right s) in
-          (e.0, begun_all g.K.Key.words c.args.table.now c.enter-all-done.new.table e.1);
+          let e = c.enter_all-done.ensures.right c.args.table.now s refl (c.blank.ensures.right s) in
+          (e.0, begun_all g.K.Key.words c.args.table.now c.enter_all-done.new.table e.1);
     }

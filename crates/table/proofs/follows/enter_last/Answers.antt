@@ -9,19 +9,19 @@ use Rattle.table.proofs.follows.enter_last.Goals as goal
 
 pub returns-then-prefix-eq0 : goal.returns-then-prefix-eq0
 returns-then-prefix-eq0 g c =
-    let s = c.set-default.ensures in
+    let s = c.set_default.ensures in
     record {
       front = default_front g.K.Key.words _ _ _ _ s;
-      right = λ last m r good apart there. (refl, defaulted_at g.K.Key.words c.args.table.now c.set-default.new.table m c.args.prefix.len _ c.if-prefix-eq0.true r s good apart);
+      right = λ last m r good apart there. (refl, defaulted_at g.K.Key.words c.args.table.now c.set_default.new.table m c.args.prefix.len _ c.if-prefix-eq0.true r s good apart);
     }
 
 pub returns-then-prefix-words : goal.returns-then-prefix-words
 returns-then-prefix-words g c =
     record { front = record { long = refl; same = λ i h. refl }; right = λ last m r good. absurd (omega (arith, good_short (width g.K.Key.words) c.args.prefix.len _ good)) }
 
-pub returns-in-default-make-way : goal.returns-in-default-make-way
-returns-in-default-make-way g c =
-    let w = c.in-default-make-way.ensures in
+pub returns-in_default-make_way : goal.returns-in_default-make_way
+returns-in_default-make_way g c =
+    let w = c.in_default-make_way.ensures in
     record {
       front = w.beside.front;
       right = λ last m r good apart there. absurd (both_ways _ refl (w.enough m r (omega arith) (good_short (width g.K.Key.words) c.args.prefix.len _ good) apart there));
@@ -29,11 +29,11 @@ returns-in-default-make-way g c =
 
 pub returns : goal.returns
 returns g c =
-    let w = c.in-Some-make-way.ensures in
+    let w = c.in-Some-make_way.ensures in
     record {
-      front = front_trans g.K.Key.words c.args.table.now _ _ w.beside.front c.write-last.ensures.beside.front;
+      front = front_trans g.K.Key.words c.args.table.now _ _ w.beside.front c.write_last.ensures.beside.front;
       right = λ last m r good apart there.
-          entered g.K.Key.words c.args.table.now m r c.args.prefix.len _ (omega arith) apart _ _ c.in-Some-make-way.node c.write-last.result there w.beside
+          entered g.K.Key.words c.args.table.now m r c.args.prefix.len _ (omega arith) apart _ _ c.in-Some-make_way.node c.write_last.result there w.beside
           (w.way m r.trie_is (omega arith) (good_short (width g.K.Key.words) c.args.prefix.len _ good))
-          (c.write-last.ensures.renewed (last_kept g.K.Key.words c.args.table.now _ _ _ _ w.beside.front last));
+          (c.write_last.ensures.renewed (last_kept g.K.Key.words c.args.table.now _ _ _ _ w.beside.front last));
     }

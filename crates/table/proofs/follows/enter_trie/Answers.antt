@@ -10,9 +10,9 @@ pub returns-then-prefix-words : goal.returns-then-prefix-words
 returns-then-prefix-words g c =
     record { front = record { long = refl; same = λ i h. refl }; right = λ m r good. absurd (omega (arith, good_short (width g.K.Key.words) c.args.prefix.len _ good)) }
 
-pub returns-in-default : goal.returns-in-default
-returns-in-default g c =
-    let w = c.in-default.ensures in
+pub returns-in_default : goal.returns-in_default
+returns-in_default g c =
+    let w = c.in_default.ensures in
     record {
       front = w.beside.front;
       right = λ m r good apart there. absurd (both_ways _ refl (w.enough m r c.requires.some (good_short (width g.K.Key.words) c.args.prefix.len _ good) apart there));
@@ -22,8 +22,8 @@ pub returns : goal.returns
 returns g c =
     let w = c.in-Some.ensures in
     record {
-      front = front_trans g.K.Key.words c.args.table.now _ _ w.beside.front c.renew-words.ensures.beside.front;
+      front = front_trans g.K.Key.words c.args.table.now _ _ w.beside.front c.renew_words.ensures.beside.front;
       right = λ m r good apart there.
-          entered g.K.Key.words c.args.table.now m r c.args.prefix.len _ c.requires.some apart _ _ c.in-Some.node c.renew-words.result there w.beside
-          (w.way m r.trie_is c.requires.some (good_short (width g.K.Key.words) c.args.prefix.len _ good)) c.renew-words.ensures;
+          entered g.K.Key.words c.args.table.now m r c.args.prefix.len _ c.requires.some apart _ _ c.in-Some.node c.renew_words.result there w.beside
+          (w.way m r.trie_is c.requires.some (good_short (width g.K.Key.words) c.args.prefix.len _ good)) c.renew_words.ensures;
     }

@@ -3,8 +3,8 @@ use Rattle.std.proofs.Common.{ℕ, ◌-◌, ◌*◌, ◌≤◌, arith}
 use Rattle.std.proofs.lemmas.Nat.{mul-le}
 use Rattle.table.proofs.lends.hints_place.Goals as goal
 
-pub overflow-mul-result-3 : goal.overflow-mul-result-3
-overflow-mul-result-3 g c =
+pub overflow_mul-result-3 : goal.overflow_mul-result-3
+overflow_mul-result-3 g c =
     let few = g.met.K.Key.few in
     let b = mul-le (8 * c.words.result - 1) c.args.room 31 4294967295 (omega arith) (omega arith) in
     record { fits = omega arith }

@@ -5,12 +5,12 @@ use Rattle.table.proofs.Lent.{lent_tail, lent_beside, tail_beside, tail_nodes, t
 use Rattle.table.proofs.Means.{nodes_fit}
 use Rattle.table.proofs.lends.make_way.Goals as goal
 
-pub returns-in-default : goal.returns-in-default
-returns-in-default g c =
-    let t = lent_tail (c.args.at + 2) c.args.table.now c.make-way.new.nodes c.requires.inside c.make-way.auto.nodes in
+pub returns-in_default : goal.returns-in_default
+returns-in_default g c =
+    let t = lent_tail (c.args.at + 2) c.args.table.now c.make_way.new.nodes c.requires.inside c.make_way.auto.nodes in
     let p = part_is g.K.Key.words c.args.at c.args.table.now c.requires.place in
     let q = count_is g.K.Key.words c.args.at c.args.table.now c.requires.place in
-    let enough = rw (p, q) at c.in-default.ensures.enough in
+    let enough = rw (p, q) at c.in_default.ensures.enough in
     record {
       beside = lent_beside g.K.Key.words c.args.at c.args.table.now _ _ c.requires.place t;
       way = λ m held some short. tt;
@@ -21,7 +21,7 @@ returns-in-default g c =
 
 pub returns : goal.returns
 returns g c =
-    let t = lent_tail (c.args.at + 2) c.args.table.now c.make-way.new.nodes c.requires.inside c.make-way.auto.nodes in
+    let t = lent_tail (c.args.at + 2) c.args.table.now c.make_way.new.nodes c.requires.inside c.make_way.auto.nodes in
     let p = part_is g.K.Key.words c.args.at c.args.table.now c.requires.place in
     let q = count_is g.K.Key.words c.args.at c.args.table.now c.requires.place in
     let way = rw (p, q) at c.in-Some.ensures.way in

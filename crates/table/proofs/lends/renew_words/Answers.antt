@@ -5,16 +5,16 @@ use Rattle.table.proofs.lends.renew_words.Goals as goal
 
 pub returns : goal.returns
 returns g c =
-    let t = lent_tail (c.args.at + 2) c.args.table.now c.write-words.new.nodes c.requires.inside c.write-words.auto.nodes in
+    let t = lent_tail (c.args.at + 2) c.args.table.now c.write_words.new.nodes c.requires.inside c.write_words.auto.nodes in
     let p = part_is g.K.Key.words c.args.at c.args.table.now c.requires.place in
     let part = lent_trie g.K.Key.words c.args.at c.args.table.now _ _ c.requires.place t in
     record {
       beside = lent_beside g.K.Key.words c.args.at c.args.table.now _ _ c.requires.place t;
       count = lent_count g.K.Key.words c.args.at c.args.table.now _ _ c.requires.place t;
-      fits = rw p at c.write-words.ensures.fits;
+      fits = rw p at c.write_words.ensures.fits;
       mask = c.cells-mask.result;
-      said = c.words-of-words.result;
+      said = c.words_of-words.result;
       cells = c.cells-mask.ensures.bits c.requires.some c.requires.short;
-      says = c.words-of-words.ensures;
-      written = λ done. rw part (rw p at (c.write-words.ensures.written done));
+      says = c.words_of-words.ensures;
+      written = λ done. rw part (rw p at (c.write_words.ensures.written done));
     }

@@ -7,4 +7,4 @@ pub returns : goal.returns
 returns g c m held some short there =
     let p = part_is g.K.Key.words c.args.at c.args.table.now c.requires.place in
     let q = count_is g.K.Key.words c.args.at c.args.table.now c.requires.place in
-    (rw (p, q) at (c.way-end.ensures.end m)) held some short there
+    (rw (p, q) at (c.way_end.ensures.end m)) held some short there

@@ -9,7 +9,7 @@ use Rattle.table.proofs.lends.write_last.Goals as goal
 
 pub returns : goal.returns
 returns g c =
-    let t = lent_tail (c.args.at + 2) c.args.table.now c.write-words.new.nodes c.requires.inside c.write-words.auto.nodes in
+    let t = lent_tail (c.args.at + 2) c.args.table.now c.write_words.new.nodes c.requires.inside c.write_words.auto.nodes in
     let p = part_is g.K.Key.words c.args.at c.args.table.now c.requires.place in
     let part = lent_trie g.K.Key.words c.args.at c.args.table.now _ _ c.requires.place t in
     let beside = lent_beside g.K.Key.words c.args.at c.args.table.now _ _ c.requires.place t in
@@ -20,7 +20,7 @@ returns g c =
           record {
             beside = beside;
             count = lent_count g.K.Key.words c.args.at c.args.table.now _ _ c.requires.place t;
-            fits = rw p at c.write-words.ensures.fits;
+            fits = rw p at c.write_words.ensures.fits;
             mask = c.cells-mask.result;
             said = replicate 16 ((c.args.hop + 1) % 4294967296);
             cells = cells;
@@ -29,6 +29,6 @@ returns g c =
                 let low = last_fits (width g.K.Key.words) (listed g.K.Key.words c.args.table.now) last.place (g.K.Key.num c.args.prefix.bits) c.args.prefix.len c.args.hop good order last.ends last.is in
                 let whole : (c.args.hop + 1) % 4294967296 ≡ suc c.args.hop = omega arith in
                 get_or-replicate 16 k ((c.args.hop + 1) % 4294967296) 0 h ∙ whole ∙ sym word;
-            written = λ done. rw part (rw p at (c.write-words.ensures.written done));
+            written = λ done. rw part (rw p at (c.write_words.ensures.written done));
           };
     }

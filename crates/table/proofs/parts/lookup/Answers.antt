@@ -10,9 +10,9 @@ use Rattle.table.specs.Right.{Right, room, default_at, listed, default, nodes, t
 use Rattle.table.specs.Answers.{answers}
 use Rattle.table.proofs.parts.lookup.Goals as goal
 
-pub returns-in-default : goal.returns-in-default
-returns-in-default g c =
-    let short = c.in-default.ensures in
+pub returns-in_default : goal.returns-in_default
+returns-in_default g c =
+    let short = c.in_default.ensures in
     record { value = grind (arith, nat_tests); right = λ right. absurd (omega (arith, short, right.long)) }
 
 pub returns : goal.returns

@@ -6,15 +6,15 @@ use Rattle.table.specs.Right.{listed}
 use Rattle.table.proofs.Cells.{half_below, found_word, missed_word, none_fewer, one_fewer}
 use Rattle.table.proofs.words.+word_above.Goals as goal
 
-pub word-above-requires : goal.word-above-requires
-word-above-requires g t c κs within =
+pub word_above-requires : goal.word_above-requires
+word_above-requires g t c κs within =
     let h = half_below (g.K.Key.num c.args.path) c.args.len (omega (arith, c.requires.few)) c.requires.below in
     (omega (arith, c.decreases), (within, (omega (arith, c.requires.short), (rw c.half.ensures h, omega (arith, c.requires.few)))))
 
 pub returns-then-fewer-gt0 : goal.returns-then-fewer-gt0
 returns-then-fewer-gt0 g t c order good =
     let m = hops (width g.K.Key.words) (listed g.K.Key.words c.args.table.now) in
-    c.word-above.ensures order good ∙ ap (λ (p : ℕ). m (c.args.len - 1 - (c.args.fewer - 1)) (p / 2 ^ (c.args.fewer - 1))) c.half.ensures ∙ one_fewer m c.args.len (g.K.Key.num c.args.path) c.args.fewer (omega arith)
+    c.word_above.ensures order good ∙ ap (λ (p : ℕ). m (c.args.len - 1 - (c.args.fewer - 1)) (p / 2 ^ (c.args.fewer - 1))) c.half.ensures ∙ one_fewer m c.args.len (g.K.Key.num c.args.path) c.args.fewer (omega arith)
 
 pub returns-in-Some : goal.returns-in-Some
 returns-in-Some g t c order good =

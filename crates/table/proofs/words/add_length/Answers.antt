@@ -14,16 +14,16 @@ loop-k-init g c =
 
 pub loop-k-preserved : goal.loop-k-preserved
 loop-k-preserved g c = (
-  c.add-word-known.auto.words ∙ c.loop-k.invariant.0,
-  λ j h. c.add-word-known.ensures.others j (omega arith) ∙ c.loop-k.invariant.1 j (omega arith),
+  c.add_word-known.auto.words ∙ c.loop-k.invariant.0,
+  λ j h. c.add_word-known.ensures.others j (omega arith) ∙ c.loop-k.invariant.1 j (omega arith),
   λ order good.
       let before = c.loop-k.invariant.2 order good in
-      let after = c.add-word-known.ensures.right order good before.0 in (
+      let after = c.add_word-known.ensures.right order good before.0 in (
         after.0,
         λ j h mark.
             ⊎_elim
             (λ (e : j ≡ c.loop-k.k). rw e (after.1 (rw e at mark) ∙ ap (λ (n : ℕ). or_else n (at_cell (hops (width g.K.Key.words) (listed g.K.Key.words c.args.table.now)) c.args.depth (g.K.Key.num c.args.path) c.args.fewer c.loop-k.k)) (c.loop-k.invariant.1 c.loop-k.k (omega arith))))
-            (λ (ne : j ≡ c.loop-k.k → ⊥). c.add-word-known.ensures.others j ne ∙ before.1 j (omega arith) mark)
+            (λ (ne : j ≡ c.loop-k.k → ⊥). c.add_word-known.ensures.others j ne ∙ before.1 j (omega arith) mark)
             (cases_eq j c.loop-k.k),
       ),
 )

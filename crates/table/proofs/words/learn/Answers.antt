@@ -9,8 +9,8 @@ use Rattle.table.proofs.words.learn.Goals as goal
 pub joined-requires : goal.joined-requires
 joined-requires g c = joined_fits (width g.K.Key.words) (g.K.Key.num c.args.path) c.args.depth c.args.k (omega (arith, c.requires.deep)) c.requires.below c.requires.cell
 
-pub word-above-word-requires : goal.word-above-word-requires
-word-above-word-requires g c =
+pub word_above-word-requires : goal.word_above-word-requires
+word_above-word-requires g c =
     record {
       short = omega (arith, c.requires.deep);
       below = rw c.joined.ensures (joined_below (g.K.Key.num c.args.path) c.args.depth c.args.k c.requires.below c.requires.cell);
@@ -23,6 +23,6 @@ returns g c =
     record {
       group = refl;
       right = λ order good knows j h same.
-          c.word-above-word.ensures order good ∙ ap (λ (p : ℕ). m (4 * c.args.depth + 4 - c.args.fewer) (p / 2 ^ c.args.fewer)) c.joined.ensures
+          c.word_above-word.ensures order good ∙ ap (λ (p : ℕ). m (4 * c.args.depth + 4 - c.args.fewer) (p / 2 ^ c.args.fewer)) c.joined.ensures
           ∙ sym (same_group m c.args.depth (g.K.Key.num c.args.path) c.args.fewer j c.args.k c.requires.few same);
     }

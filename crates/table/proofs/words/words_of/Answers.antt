@@ -9,12 +9,12 @@ use Rattle.table.proofs.words.words_of.Goals as goal
 
 pub loop-fewer-preserved : goal.loop-fewer-preserved
 loop-fewer-preserved g c = (
-  c.add-length.auto.words ∙ c.loop-fewer.invariant.0,
+  c.add_length.auto.words ∙ c.loop-fewer.invariant.0,
   λ order good k h mark.
       let m = hops (width g.K.Key.words) (listed g.K.Key.words c.args.table.now) in
       let depth = (c.args.prefix.len - 1) / 4 in
       let path = g.K.Key.num c.first-path.result in
-      c.add-length.ensures order good k h mark
+      c.add_length.ensures order good k h mark
       ∙ ap (λ (n : ℕ). or_else n (at_cell m depth path c.loop-fewer.fewer k)) (c.loop-fewer.invariant.1 order good k h mark)
       ∙ down_more m (4 * depth + 4) (16 * path + k) c.loop-fewer.fewer,
 )

@@ -7,40 +7,40 @@ use Rattle.text.proofs.Asks.{apart, alike, put_none_1, put_none_2, put_none_3, p
 use Rattle.text.proofs.lines.route.Goals as goal
 use Rattle.text.proofs.lines.route.Goals.{Else-ne}
 
-pub returns-in-err-address : goal.returns-in-err-address
-returns-in-err-address c = c.from-residual.ensures ∙ put_none_1 c.args.text.now c.in-err-address.ensures.cases
+pub returns-in_err-address : goal.returns-in_err-address
+returns-in_err-address c = c.from_residual.ensures ∙ put_none_1 c.args.text.now c.in_err-address.ensures.cases
 
-pub returns-in-err-len : goal.returns-in-err-len
-returns-in-err-len c =
-    c.from-residual-in-err-len.ensures
-    ∙ put_none_2 c.args.text.now c.in-ok-address.address c.in-ok-address.rest c.in-ok-address.ensures.cases c.in-err-len.ensures.cases
+pub returns-in_err-len : goal.returns-in_err-len
+returns-in_err-len c =
+    c.from_residual-in_err-len.ensures
+    ∙ put_none_2 c.args.text.now c.in_ok-address.address c.in_ok-address.rest c.in_ok-address.ensures.cases c.in_err-len.ensures.cases
 
-pub returns-in-err-to : goal.returns-in-err-to
-returns-in-err-to c =
-    c.from-residual-in-err-to.ensures
-    ∙ put_none_3 c.args.text.now c.in-ok-address.address c.in-ok-address.rest c.in-ok-len.len c.in-ok-len.rest c.in-ok-address.ensures.cases c.in-ok-len.ensures.cases c.in-err-to.ensures.cases
+pub returns-in_err-to : goal.returns-in_err-to
+returns-in_err-to c =
+    c.from_residual-in_err-to.ensures
+    ∙ put_none_3 c.args.text.now c.in_ok-address.address c.in_ok-address.rest c.in_ok-len.len c.in_ok-len.rest c.in_ok-address.ensures.cases c.in_ok-len.ensures.cases c.in_err-to.ensures.cases
 
 pub returns-then-ne : goal.returns-then-ne
 returns-then-ne c =
-    let n = apart c.in-ok-to.to.now (codes "to") c.ne.result c.ne.ensures c.if-ne.true in
-    let e = put_some c.args.text.now c.in-ok-address.address c.in-ok-address.rest c.in-ok-len.len c.in-ok-len.rest c.in-ok-to.to c.in-ok-to.hop c.in-ok-address.ensures.cases c.in-ok-len.ensures.cases c.in-ok-to.ensures.cases in
-    sym (e ∙ routing_other c.in-ok-address.address.now c.in-ok-len.len.now c.in-ok-to.to.now c.in-ok-to.hop.now n)
+    let n = apart c.in_ok-to.to.now (codes "to") c.ne.result c.ne.ensures c.if-ne.true in
+    let e = put_some c.args.text.now c.in_ok-address.address c.in_ok-address.rest c.in_ok-len.len c.in_ok-len.rest c.in_ok-to.to c.in_ok-to.hop c.in_ok-address.ensures.cases c.in_ok-len.ensures.cases c.in_ok-to.ensures.cases in
+    sym (e ∙ routing_other c.in_ok-address.address.now c.in_ok-len.len.now c.in_ok-to.to.now c.in_ok-to.hop.now n)
 
 -- what is read once the three spaces are found, and `to` before the last
-parts : (c : Else-ne) → put (fields 32 c.args.text.now) ≡ routed (both (dotted c.in-ok-address.address.now) (decimal c.in-ok-len.len.now)) (decimal c.in-ok-to.hop.now)
+parts : (c : Else-ne) → put (fields 32 c.args.text.now) ≡ routed (both (dotted c.in_ok-address.address.now) (decimal c.in_ok-len.len.now)) (decimal c.in_ok-to.hop.now)
 parts c =
-    let t = alike c.in-ok-to.to.now (codes "to") c.ne.result c.ne.ensures c.if-ne.false in
-    let e = put_some c.args.text.now c.in-ok-address.address c.in-ok-address.rest c.in-ok-len.len c.in-ok-len.rest c.in-ok-to.to c.in-ok-to.hop c.in-ok-address.ensures.cases c.in-ok-len.ensures.cases c.in-ok-to.ensures.cases in
-    e ∙ routing_to c.in-ok-address.address.now c.in-ok-len.len.now c.in-ok-to.to.now c.in-ok-to.hop.now t
+    let t = alike c.in_ok-to.to.now (codes "to") c.ne.result c.ne.ensures c.if-ne.false in
+    let e = put_some c.args.text.now c.in_ok-address.address c.in_ok-address.rest c.in_ok-len.len c.in_ok-len.rest c.in_ok-to.to c.in_ok-to.hop c.in_ok-address.ensures.cases c.in_ok-len.ensures.cases c.in_ok-to.ensures.cases in
+    e ∙ routing_to c.in_ok-address.address.now c.in_ok-len.len.now c.in_ok-to.to.now c.in_ok-to.hop.now t
 
-pub returns-in-err-bits : goal.returns-in-err-bits
-returns-in-err-bits c = c.from-residual-in-err-bits.ensures ∙ lacks_prefix _ _ _ (parts (goal.at.returns-in-err-bits c).Else-ne) (lacks_bits _ _ _ refl c.in-err-bits.ensures)
+pub returns-in_err-bits : goal.returns-in_err-bits
+returns-in_err-bits c = c.from_residual-in_err-bits.ensures ∙ lacks_prefix _ _ _ (parts (goal.at.returns-in_err-bits c).Else-ne) (lacks_bits _ _ _ refl c.in_err-bits.ensures)
 
-pub returns-in-err-len-2 : goal.returns-in-err-len-2
-returns-in-err-len-2 c = c.from-residual-in-err-len-2.ensures ∙ lacks_prefix _ _ _ (parts (goal.at.returns-in-err-len-2 c).Else-ne) (lacks_len _ _ _ refl c.in-err-len-2.ensures)
+pub returns-in_err-len-2 : goal.returns-in_err-len-2
+returns-in_err-len-2 c = c.from_residual-in_err-len-2.ensures ∙ lacks_prefix _ _ _ (parts (goal.at.returns-in_err-len-2 c).Else-ne) (lacks_len _ _ _ refl c.in_err-len-2.ensures)
 
-pub returns-in-err-hop : goal.returns-in-err-hop
-returns-in-err-hop c = c.from-residual-in-err-hop.ensures ∙ lacks_hop _ _ _ (parts (goal.at.returns-in-err-hop c).Else-ne) c.in-err-hop.ensures
+pub returns-in_err-hop : goal.returns-in_err-hop
+returns-in_err-hop c = c.from_residual-in_err-hop.ensures ∙ lacks_hop _ _ _ (parts (goal.at.returns-in_err-hop c).Else-ne) c.in_err-hop.ensures
 
 pub returns : goal.returns
-returns c = has_route _ _ _ _ _ _ (parts (goal.at.returns c).Else-ne) (has_both _ _ _ _ _ refl c.in-ok-bits.ensures c.in-ok-len-2.ensures) c.in-ok-hop.ensures
+returns c = has_route _ _ _ _ _ _ (parts (goal.at.returns c).Else-ne) (has_both _ _ _ _ _ refl c.in_ok-bits.ensures c.in_ok-len-2.ensures) c.in_ok-hop.ensures

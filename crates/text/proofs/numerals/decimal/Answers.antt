@@ -5,12 +5,12 @@ use Rattle.std.proofs.lemmas.Bool.Decides.{not_from_Decides}
 use Rattle.text.proofs.Digits.{decimal_plus, decimal_parsed}
 use Rattle.text.proofs.numerals.decimal.Goals as goal
 
-pub returns-then-starts-with : goal.returns-then-starts-with
-returns-then-starts-with c =
-    let h = starts_char 43 c.args.text.now c.starts-with.result c.starts-with.ensures.cases (lit< tt) (lit< tt) in
-    sym (decimal_plus c.args.text.now (h.0 c.if-starts-with.true))
+pub returns-then-starts_with : goal.returns-then-starts_with
+returns-then-starts_with c =
+    let h = starts_char 43 c.args.text.now c.starts_with.result c.starts_with.ensures.cases (lit< tt) (lit< tt) in
+    sym (decimal_plus c.args.text.now (h.0 c.if-starts_with.true))
 
 pub returns : goal.returns
 returns c =
-    let h = starts_char 43 c.args.text.now c.starts-with.result c.starts-with.ensures.cases (lit< tt) (lit< tt) in
-    c.ok.ensures.value ∙ decimal_parsed c.args.text.now c.parse.result c.parse.ensures.value.0 (not_from_Decides c.starts-with.result h c.if-starts-with.false)
+    let h = starts_char 43 c.args.text.now c.starts_with.result c.starts_with.ensures.cases (lit< tt) (lit< tt) in
+    c.ok.ensures.value ∙ decimal_parsed c.args.text.now c.parse.result c.parse.ensures.value.0 (not_from_Decides c.starts_with.result h c.if-starts_with.false)

@@ -6,7 +6,7 @@ use Rattle.prefix.proofs.prefixes.Prefix.is_same.Goals as goal
 
 pub returns-then-self-other : goal.returns-then-self-other
 unfolding same_prefix
-returns-then-self-other g c hop hop' = let e = c.is-same.ensures in grind (arith, nat_tests)
+returns-then-self-other g c hop hop' = let e = c.is_same.ensures in grind (arith, nat_tests)
 
 pub returns-else-self-other : goal.returns-else-self-other
 unfolding same_prefix
