@@ -48,4 +48,4 @@ returns-in_ok-bits-2 c =
     sym (beneath_is c.args.line.now c.in_ok-verb.verb c.in_ok-verb.rest c.in_ok-verb.ensures.cases c.in-beneath.is ∙ ap (option_map (λ p. Beneath p.0 p.1)) (sym c.in_ok-bits-2.ensures))
 
 pub returns-in_default : goal.returns-in_default
-returns-in_default c = other_is c.args.line.now c.in_ok-verb.verb c.in_ok-verb.rest c.in_ok-verb.ensures.cases c.in_default.not-IsTable c.in_default.not-put c.in_default.not-away c.in_default.not-look c.in_default.not-beneath
+returns-in_default c = other_is c.args.line.now c.in_ok-verb.verb c.in_ok-verb.rest c.in_ok-verb.ensures.cases c.in_default.not-table c.in_default.not-put c.in_default.not-away c.in_default.not-look c.in_default.not-beneath
