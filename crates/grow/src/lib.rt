@@ -1,5 +1,6 @@
 // Nodes for one more prefix, in a lent row of nodes: the way to the prefix is made or found, and the words of its cells are written. What a row holds in between is said by crate `trie`, and that these steps put a prefix there is proved in proofs/Renewals.antt.
 #![tactic(auto)]
+
 mod finding;
 mod making;
 mod masks;

@@ -1,5 +1,6 @@
 // Keys, prefixes and matching: the ground on which the route list and the trie stand. What a list of routes answers is defined in specs/Routes.antt, and the laws of these answers are proved in `laws`.
 #![tactic(auto)]
+
 mod keys;
 pub mod laws;
 mod prefixes;

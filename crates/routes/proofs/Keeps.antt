@@ -1,14 +1,14 @@
 -- A change at the place that the search found keeps a list in order, and is put or taken away as a set. Assumes nothing.
-use Rattle.std.proofs.Common.{◌≡◌, ℕ, zero, suc, ◌+◌, ◌-◌, ◌<◌, ◌≤◌, true, false, cond, ◌&&◌, ◌||◌, eqb, ltb, ◌⊎◌, List, [], ◌∷◌, ◌++◌, length, get_or, take, drop, set, sym, refl, ap, ◌∙◌, inl, inr, ⊎_elim, arith}
+use Rattle.std.proofs.Common.{◌≡◌, ℕ, zero, suc, ◌+◌, ◌-◌, ◌<◌, ◌≤◌, true, false, ◌⊎◌, List, [], ◌∷◌, ◌++◌, length, get_or, take, drop, set, sym, refl, ap, ◌∙◌, inl, inr, ⊎_elim, arith}
 use Rattle.std.specs.List.{insert, remove}
 use Rattle.std.proofs.lemmas.List.Edits.{length-insert, get_or-insert_below, get_or-insert_at, get_or-insert_above, length-remove, get_or-remove_below, get_or-remove_above}
 use Rattle.std.proofs.lemmas.List.{get_or-set_same, get_or-set_other, length-set, take-append-drop}
 use Rattle.std.proofs.lemmas.Bool.{cases_eq, cases_lt, cases_order}
 use Rattle.std.proofs.lemmas.Bool.Decides.{nat_tests}
-use Rattle.prefix.specs.Routes.{Route, route_of, before, no_route, same_prefix, put, away, held, In, InOrder, SameMembers}
+use Rattle.prefix.specs.Routes.{Route, route_of, before, no_route, same_prefix, put, away, In, InOrder, SameMembers}
 use Rattle.routes.specs.Searches.{Found, Missing}
 use Rattle.routes.specs.Changes.{PutInOrder, AwayInOrder}
-use Rattle.routes.proofs.Order.{before_apart, below_before, above_before, misses}
+use Rattle.routes.proofs.Order.{below_before, above_before, misses}
 
 -- put and away by places: the first route with the prefix, or none
 put_set : (rs : List Route) (r : Route) (k : ℕ) → k < length rs → ((j : ℕ) → j < k → same_prefix (get_or rs j no_route) r ≡ false) → same_prefix (get_or rs k no_route) r ≡ true → put r rs ≡ set rs k r

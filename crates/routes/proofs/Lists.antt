@@ -1,9 +1,8 @@
 -- The list of a row, route by route. Assumes nothing.
-use Rattle.std.proofs.Common.{◌≡◌, ℕ, ◌+◌, ◌<◌, List, ◌∷◌, length, get_or, drop, sym, ◌∙◌, arith}
+use Rattle.std.proofs.Common.{◌≡◌, ℕ, ◌+◌, ◌<◌, List, length, get_or, arith}
 use Rattle.std.proofs.lemmas.List.FromFn.{length-map-range_with_len, get_or-map-range_with_len}
-use Rattle.std.proofs.lemmas.List.{drop_more}
 use Rattle.prefix.specs.Words.{loaded}
-use Rattle.prefix.specs.Routes.{Route, route_of, no_route}
+use Rattle.prefix.specs.Routes.{route_of, no_route}
 use Rattle.routes.specs.Rows.{slot, route_at, count_in, routes}
 
 pub length_routes : (words stride : ℕ) (row : List ℕ) → length (routes words stride row) ≡ count_in words stride row

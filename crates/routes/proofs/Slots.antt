@@ -1,6 +1,6 @@
 -- The places of a row at which its routes stand: the products of stride and number that linear arithmetic does not see. Assumes nothing.
-use Rattle.std.proofs.Common.{◌≡◌, ℕ, suc, ◌+◌, ◌-◌, ◌*◌, ◌/◌, ◌<◌, ◌≤◌, true, false, cond, ◌&&◌, leb, List, length, get_or, sym, ap, ◌∙◌, ⊎_elim, mul_comm, mul-suc, add-one, arith}
-use Rattle.std.proofs.lemmas.Nat.{le-div, div-add-mod', mod_below, mul-le}
+use Rattle.std.proofs.Common.{◌≡◌, ℕ, suc, ◌+◌, ◌-◌, ◌*◌, ◌/◌, ◌<◌, ◌≤◌, true, List, length, get_or, ⊎_elim, mul_comm, mul-suc, add-one, arith}
+use Rattle.std.proofs.lemmas.Nat.{div-add-mod', mod_below, mul-le}
 use Rattle.std.proofs.lemmas.Bool.{cases_order}
 use Rattle.std.proofs.lemmas.Bool.Decides.{nat_tests}
 use Rattle.routes.specs.Rows.{slot, listing, count_in, room_in}

@@ -1,7 +1,7 @@
 -- One step of going through a list, and its end. Assumes nothing.
-use Rattle.std.proofs.Common.{◌≡◌, ℕ, suc, ◌+◌, ◌<◌, ◌≤◌, Bool, true, false, cond, ◌&&◌, ltb, List, [], ◌∷◌, length, get_or, drop, sym, refl, ap, ◌∙◌}
+use Rattle.std.proofs.Common.{◌≡◌, ℕ, suc, ◌+◌, ◌<◌, ◌≤◌, Bool, true, false, cond, ◌&&◌, ltb, List, length, get_or, drop, refl}
 use Rattle.std.proofs.lemmas.List.{drop_more, drop_all}
-use Rattle.prefix.specs.Routes.{Route, route_of, no_route, matches, best}
+use Rattle.prefix.specs.Routes.{Route, no_route, matches, best}
 
 pick_both : (w x : ℕ) (rs : List Route) (t : Bool) (a b p q : ℕ) → cond t (best w rs x a p) (best w rs x b q) ≡ best w rs x (cond t a b) (cond t p q)
 pick_both w x rs true a b p q = refl

@@ -1,5 +1,5 @@
 -- What a change of a route list answers and leaves, in any list; and what it comes to in a list in order. Assumes nothing: these are definitions.
-use Rattle.std.specs.Prelude.{◌≡◌, ℕ, suc, ◌+◌, ◌-◌, ◌<◌, List, length, set, Some, None, Ok, Err, Option, Result, slice_index, slice_set}
+use Rattle.std.specs.Prelude.{◌≡◌, ℕ, suc, ◌+◌, ◌-◌, List, Some, None, Ok, Err, Option, Result, slice_index, slice_set}
 use Rattle.std.specs.List.{insert, remove}
 use Rattle.prefix.specs.Routes.{Route, InOrder, SameMembers, put, away, held}
 use Rattle.routes.specs.Rows.{slot, count_in, room_in, routes, told}

@@ -4,6 +4,7 @@
 //
 // Every function takes any row. One that is no list's (a stride too short, a room that the row has not, more routes than room) is a list of no routes with no room. In a list that is out of order searches end, and may not find what is there.
 #![tactic(auto)]
+
 mod edits;
 mod rows;
 mod scans;

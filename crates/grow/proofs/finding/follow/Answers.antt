@@ -1,5 +1,5 @@
 -- The way down, nibble by nibble: no node of it is missing.
-use Rattle.std.proofs.Common.{◌≡◌, ℕ, ◌+◌, ◌-◌, ◌/◌, ◌^◌, ◌<◌, sym, refl, ◌∙◌, subst, arith}
+use Rattle.std.proofs.Common.{ℕ, ◌+◌, ◌<◌, sym, ◌∙◌, subst, arith}
 use Rattle.std.proofs.lemmas.Option.{MatchOption-from_none}
 use Rattle.prefix.specs.Words.{width}
 use Rattle.prefix.proofs.Nibbles.{fits_width}

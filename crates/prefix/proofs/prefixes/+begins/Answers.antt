@@ -1,5 +1,5 @@
 -- Keys are compared nibble by nibble.
-use Rattle.std.proofs.Common.{◌≡◌, ℕ, ◌-◌, ◌*◌, ◌/◌, ◌^◌, ◌≤◌, ◌≢◌, sym, ◌∙◌, arith}
+use Rattle.std.proofs.Common.{◌≡◌, ℕ, ◌-◌, ◌/◌, ◌^◌, ◌≤◌, ◌≢◌, sym, ◌∙◌, arith}
 use Rattle.prefix.specs.Words.{width}
 use Rattle.prefix.proofs.Nibbles.{first_short, apart, together}
 use Rattle.prefix.proofs.prefixes.+begins.Goals as goal

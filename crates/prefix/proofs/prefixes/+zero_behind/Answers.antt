@@ -1,5 +1,5 @@
 -- The bits behind a length are gone through nibble by nibble.
-use Rattle.std.proofs.Common.{◌≡◌, ℕ, ◌-◌, ◌*◌, ◌/◌, ◌%◌, ◌^◌, ◌<◌, ◌≤◌, refl, ◌∙◌, arith}
+use Rattle.std.proofs.Common.{ℕ, ◌≤◌, refl, ◌∙◌, arith}
 use Rattle.std.proofs.lemmas.Bool.{eq-eqb, ne_eqb}
 use Rattle.prefix.specs.Words.{width}
 use Rattle.prefix.proofs.Nibbles.{zero_short, zero_long, fits_width}

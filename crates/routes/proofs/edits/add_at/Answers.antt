@@ -1,8 +1,7 @@
 -- The gap is opened between the place and the end of the list, and the route written into it.
-use Rattle.std.proofs.Common.{◌≡◌, ℕ, suc, ◌+◌, ◌-◌, ◌<◌, ◌≤◌, List, length, get_or, set, sym, refl, ap, ◌∙◌, arith, rules}
+use Rattle.std.proofs.Common.{ℕ, ◌≤◌, get_or, refl, ◌∙◌, arith, rules}
 use borrow.Rule.Slice.PartMut.{same_len_mid}
-use Rattle.std.proofs.lemmas.List.{places, length-set, get_or-set_same, get_or-set_other}
-use Rattle.routes.specs.Rows.{slot, count_in}
+use Rattle.routes.specs.Rows.{slot}
 use Rattle.routes.proofs.Slots.{slots_rise, count_low}
 use Rattle.routes.proofs.Moves.{lent_opened, added_by}
 use Rattle.routes.proofs.edits.add_at.Goals as goal

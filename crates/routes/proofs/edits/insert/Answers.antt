@@ -1,5 +1,5 @@
 -- The search says where the route stands or would, and the change is made there.
-use Rattle.std.proofs.Common.{◌≡◌, ℕ, ◌<◌, sym, refl, ap, ◌∙◌, arith}
+use Rattle.std.proofs.Common.{◌<◌, sym, refl, ap, ◌∙◌, arith}
 use Rattle.prefix.specs.Routes.{Route, route_of}
 use Rattle.routes.specs.Rows.{count_in}
 use Rattle.routes.proofs.Slots.{count_room}

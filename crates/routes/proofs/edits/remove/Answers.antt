@@ -1,5 +1,5 @@
 -- The search says where the route stands, and it is taken out there.
-use Rattle.std.proofs.Common.{◌≡◌, ℕ, ◌<◌, sym, refl, ap, ◌∙◌, arith}
+use Rattle.std.proofs.Common.{◌<◌, sym, refl, ap, ◌∙◌, arith}
 use Rattle.prefix.specs.Routes.{Route}
 use Rattle.routes.specs.Rows.{count_in}
 use Rattle.routes.proofs.Lists.{length_routes, getD_routes}

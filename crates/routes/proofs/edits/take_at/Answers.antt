@@ -1,5 +1,5 @@
 -- The gap is closed between the place and the end of the list.
-use Rattle.std.proofs.Common.{◌≡◌, ℕ, ◌+◌, ◌-◌, ◌*◌, ◌<◌, ◌≤◌, length, get_or, refl, ap, ◌∙◌, arith, rules}
+use Rattle.std.proofs.Common.{◌≡◌, ℕ, ◌+◌, ◌-◌, ◌*◌, ◌<◌, ◌≤◌, get_or, refl, ap, arith, rules}
 use borrow.Rule.Slice.PartMut.{same_len_mid}
 use Rattle.routes.specs.Rows.{slot}
 use Rattle.routes.proofs.Slots.{slots_rise, mul_add_one, count_low}

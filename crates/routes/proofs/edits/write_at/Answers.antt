@@ -1,5 +1,5 @@
 -- Three writes, one behind the other.
-use Rattle.std.proofs.Common.{◌≡◌, ◌+◌, ◌∙◌, arith}
+use Rattle.std.proofs.Common.{◌∙◌, arith}
 use Rattle.std.proofs.lemmas.List.{get_or-set_same, get_or-set_other, length-set}
 use Rattle.routes.proofs.Moves.{loaded_same}
 use Rattle.routes.proofs.edits.write_at.Goals as goal

@@ -1,6 +1,6 @@
 -- A route that is there is read as the list has it.
-use Rattle.std.proofs.Common.{◌≡◌, ◌<◌, ◌≤◌, sym, ◌∙◌, arith}
-use Rattle.routes.proofs.Lists.{length_routes, getD_routes, read_as}
+use Rattle.std.proofs.Common.{arith}
+use Rattle.routes.proofs.Lists.{length_routes, read_as}
 use Rattle.routes.proofs.rows.route.Goals as goal
 
 pub returns-then-k-of : goal.returns-then-k-of

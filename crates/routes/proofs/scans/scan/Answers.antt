@@ -1,7 +1,7 @@
 -- One more route gone through.
-use Rattle.std.proofs.Common.{◌≡◌, ℕ, ◌+◌, ◌<◌, cond, ◌&&◌, List, length, get_or, drop, sym, refl, ap, ◌∙◌, arith}
+use Rattle.std.proofs.Common.{List, sym, refl, ap, ◌∙◌, arith}
 use Rattle.prefix.specs.Words.{width}
-use Rattle.prefix.specs.Routes.{Route, route_of, no_route, best, answer}
+use Rattle.prefix.specs.Routes.{Route, answer}
 use Rattle.routes.specs.Rows.{routes}
 use Rattle.routes.specs.Bests.{long_of, hop_of}
 use Rattle.routes.proofs.Lists.{length_routes, read_as}

@@ -1,6 +1,5 @@
 -- The route at the lower bound has the prefix, or, in a list in order, none has.
-use Rattle.std.proofs.Common.{◌≡◌, ℕ, ◌<◌, ◌≤◌, true, false, sym, refl, ap, ◌∙◌, arith}
-use Rattle.prefix.specs.Routes.{Route, route_of, same_prefix}
+use Rattle.std.proofs.Common.{sym, refl, arith}
 use Rattle.routes.proofs.Lists.{length_routes, read_as}
 use Rattle.routes.proofs.Order.{found, missing}
 use Rattle.routes.proofs.searches.find.Goals as goal

@@ -1,7 +1,5 @@
 -- Each turn halves what is left, and keeps the routes on both sides as they should be.
-use Rattle.std.proofs.Common.{◌≡◌, ℕ, ◌+◌, ◌-◌, ◌/◌, ◌<◌, ◌≤◌, Bool, true, false, length, get_or, sym, refl, ap, ◌∙◌, arith}
-use Rattle.prefix.specs.Routes.{Route, route_of, before, no_route}
-use Rattle.routes.specs.Rows.{routes}
+use Rattle.std.proofs.Common.{◌≡◌, ℕ, ◌+◌, ◌-◌, ◌/◌, sym, refl, arith}
 use Rattle.routes.proofs.Lists.{length_routes, read_as}
 use Rattle.routes.proofs.Slots.{count_low}
 use Rattle.routes.proofs.searches.lower_bound.Goals as goal

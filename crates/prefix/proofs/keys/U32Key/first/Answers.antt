@@ -1,5 +1,5 @@
 -- So many bits of a number of 32 are one of so many.
-use Rattle.std.proofs.Common.{◌≡◌, ℕ, ◌+◌, ◌-◌, ◌^◌, ◌<◌, refl, arith}
+use Rattle.std.proofs.Common.{◌≡◌, ◌+◌, ◌-◌, ◌^◌, ◌<◌, refl, arith}
 use Rattle.std.proofs.lemmas.Nat.{shr_below}
 use Rattle.prefix.proofs.keys.U32Key.first.Goals as goal
 

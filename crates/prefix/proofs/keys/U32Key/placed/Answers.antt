@@ -1,5 +1,5 @@
 -- A number of so many bits, moved up to the top, still fits.
-use Rattle.std.proofs.Common.{◌≡◌, ℕ, ◌+◌, ◌-◌, ◌*◌, ◌^◌, ◌<◌, ap, arith}
+use Rattle.std.proofs.Common.{◌≡◌, ◌+◌, ◌-◌, arith}
 use Rattle.std.proofs.lemmas.Nat.{shl_below}
 use Rattle.prefix.proofs.keys.U32Key.placed.Goals as goal
 

@@ -1,5 +1,5 @@
 -- Lengths are compared first, then the first bits.
-use Rattle.std.proofs.Common.{sym, arith}
+use Rattle.std.proofs.Common.{arith}
 use Rattle.std.proofs.lemmas.Bool.Decides.{nat_tests}
 use Rattle.prefix.specs.Routes.{matches, beneath}
 use Rattle.prefix.proofs.prefixes.Prefix.covers.Goals as goal

@@ -1,5 +1,5 @@
 -- A length above the width is as good as the width.
-use Rattle.std.proofs.Common.{◌≡◌, ℕ, ◌-◌, ◌∙◌, arith}
+use Rattle.std.proofs.Common.{◌≡◌, ◌-◌, ◌∙◌, arith}
 use Rattle.prefix.specs.Words.{width}
 use Rattle.prefix.specs.Routes.{matches}
 use Rattle.prefix.proofs.prefixes.Prefix.matches.Goals as goal
