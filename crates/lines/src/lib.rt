@@ -1,5 +1,6 @@
 // The text side of a routing table, for the program that serves one: a line is read into a command or refused, and commands and addresses are written.
 #![tactic(auto)]
+
 mod addresses;
 mod laws;
 mod lines;

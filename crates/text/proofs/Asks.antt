@@ -1,5 +1,5 @@
 -- Commands: the words of a line that are read in turn, for the proofs of the readers. Assumes nothing.
-use Rattle.std.proofs.Common.{◌≡◌, ℕ, Bool, true, false, cond, not, List, [], ◌∷◌, Some, None, codes, Decides, Option, sym, refl, ap, ◌∙◌, ⊎_elim, lit<, Bor}
+use Rattle.std.proofs.Common.{◌≡◌, ℕ, Bool, true, false, cond, not, List, [], ◌∷◌, Some, None, codes, Option, sym, refl, ap, ◌∙◌, ⊎_elim, lit<, Bor}
 use Rattle.std.specs.Option.{option_map}
 use Rattle.std.specs.Str.{bytes_eq}
 use Rattle.std.proofs.lemmas.Slice.Eq.{bytes_eq-Decides}
@@ -87,11 +87,11 @@ pub differs : (xs ys : List ℕ) → (xs ≡ ys → ⊥) → bytes_eq xs ys ≡ 
 differs xs ys n = let d = bytes_eq-Decides xs ys in ⊎_elim (λ (e : bytes_eq xs ys ≡ true). absurd (n (d.0 e))) (λ (e : bytes_eq xs ys ≡ false). e) (cases_Bool (bytes_eq xs ys))
 
 -- what `!=` says of two texts
-pub apart : (xs ys : List ℕ) (r : Bool) → ((k : Bool) × Decides k (xs ≡ ys) × (r ≡ not k)) → r ≡ true → xs ≡ ys → ⊥
-apart xs ys r h e s = both_ways h.0 (not-true h.0 (sym h.2 ∙ e)) (h.1.1 s)
+pub apart : (xs ys : List ℕ) (r : Bool) → r ≡ not (bytes_eq xs ys) → r ≡ true → xs ≡ ys → ⊥
+apart xs ys r h e s = both_ways (bytes_eq xs ys) (not-true (bytes_eq xs ys) (sym h ∙ e)) ((bytes_eq-Decides xs ys).1 s)
 
-pub alike : (xs ys : List ℕ) (r : Bool) → ((k : Bool) × Decides k (xs ≡ ys) × (r ≡ not k)) → r ≡ false → xs ≡ ys
-alike xs ys r h e = h.1.0 (not-false h.0 (sym h.2 ∙ e))
+pub alike : (xs ys : List ℕ) (r : Bool) → r ≡ not (bytes_eq xs ys) → r ≡ false → xs ≡ ys
+alike xs ys r h e = (bytes_eq-Decides xs ys).0 (not-false (bytes_eq xs ys) (sym h ∙ e))
 
 pub routing_other : (a b t d : List ℕ) → (t ≡ codes "to" → ⊥) → routing a b t d ≡ None
 routing_other a b t d n = rw (differs t (codes "to") n)

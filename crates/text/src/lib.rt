@@ -1,5 +1,6 @@
 // The text side of a routing table, for the program that serves one: a line is read into a command, and a reply is written.
 #![tactic(auto)]
+
 mod laws;
 mod lines;
 mod numerals;

@@ -1,5 +1,5 @@
 -- `ordered`: the commands of one word, and those of more, for the check.
-use Rattle.std.proofs.Common.{◌≡◌, codes, sym, ap, ◌∙◌}
+use Rattle.std.proofs.Common.{codes, sym, ap}
 use Rattle.lines.specs.Commands.{ordered}
 use Rattle.lines.proofs.Asks.{differs}
 use Rattle.lines.proofs.lines.ordered.Goals as goal
