@@ -1,5 +1,6 @@
 // Nodes given back: when a route has been removed, the nodes on the way to its prefix that have become empty are cut off, and last nodes are moved into the holes. Safe on every row; what a row is in between is defined in specs/Free.antt.
 #![tactic(auto)]
+
 ghost use Rattle.std.specs.Prelude.{◌≡◌, ◌≤◌, Some, None};
 ghost use Rattle.prefix.specs.Words.{width};
 ghost use Rattle.prefix.specs.Map.{Hops};

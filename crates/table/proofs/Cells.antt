@@ -1,7 +1,6 @@
 -- The words of a node's cells, found length by length. Assumes nothing.
 use Rattle.std.proofs.Common.{◌≡◌, ℕ, zero, suc, ◌+◌, ◌-◌, ◌*◌, ◌/◌, ◌%◌, ◌^◌, ◌<◌, ◌≤◌, true, ◌≢◌, List, sym, refl, ap, ◌∙◌, mul-le-mul_left, arith, pow_mono}
 use Rattle.std.proofs.lemmas.Nat.{shr_below, shr-shr, pow-add, pow_pos, div-add-mod'}
-use Rattle.prefix.specs.Words.{width}
 use Rattle.prefix.specs.Routes.{Route, first, good, held}
 use Rattle.prefix.specs.Map.{Hops, hops, or_else}
 use Rattle.prefix.proofs.Map.{hops_sized}

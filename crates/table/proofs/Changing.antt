@@ -1,26 +1,24 @@
 -- A change of the list: what the row is between it and the change of the trie. Assumes nothing.
-use Rattle.std.proofs.Common.{◌≡◌, ℕ, zero, suc, ◌+◌, ◌-◌, ◌*◌, ◌^◌, ◌<◌, ◌≤◌, Bool, true, false, cond, not, ◌&&◌, eqb, leb, ◌≢◌, ◌⊎◌, List, [], ◌∷◌, length, get_or, drop, set, Some, None, Ok, Err, Option, sym, refl, ap, ◌∙◌, subst, inl, inr, ⊎_elim, arith}
-use Rattle.std.specs.List.{insert}
+use Rattle.std.proofs.Common.{◌≡◌, ℕ, suc, ◌+◌, ◌-◌, ◌*◌, ◌^◌, ◌<◌, ◌≤◌, true, false, ◌≢◌, List, [], ◌∷◌, length, get_or, drop, Some, None, Ok, Err, Option, sym, refl, ap, ◌∙◌, subst, inl, inr, ⊎_elim, arith}
 use Rattle.std.proofs.lemmas.List.Edits.{length-insert, length-remove}
-use Rattle.std.proofs.lemmas.List.{ext_get_or, length-set, length-drop, get_or-drop, get_or-set_same, get_or-set_other}
+use Rattle.std.proofs.lemmas.List.{ext_get_or, length-drop, get_or-drop, get_or-set_same, get_or-set_other}
 use Rattle.std.proofs.lemmas.Bool.{cases_Bool, eq-eqb, eqb-true}
 use Rattle.std.proofs.lemmas.Bool.Decides.{nat_tests}
 use Rattle.prefix.specs.Words.{width}
 use Rattle.prefix.specs.Routes.{Route, route_of, no_route, first, good, good_prefix, good_route, same_prefix, absent, before, put, away, held, In, InOrder, SameMembers}
 use Rattle.prefix.specs.Map.{Hops, hops, set_at}
-use Rattle.prefix.proofs.Good.{fine, aligned, in_good, good_put, good_away}
+use Rattle.prefix.proofs.Good.{aligned, in_good, good_put, good_away}
 use Rattle.prefix.proofs.Edits.{held_in}
 use Rattle.prefix.proofs.Map.{hops_put, hops_away, hops_members}
 use Rattle.routes.specs.Rows.{slot, listing, count_in, room_in, routes}
 use Rattle.routes.specs.declared.edits.Full.{Full}
 use Rattle.routes.specs.Searches.{Found, Missing}
-use Rattle.routes.specs.Changes.{Added, Replaced, Removed, InsertSays, InsertKeeps, RemoveSays, RemoveKeeps, PutInOrder, AwayInOrder}
-use Rattle.routes.proofs.Slots.{next_slot, slots_rise, count_room, with_room, count_is, room_is}
+use Rattle.routes.specs.Changes.{Added, Replaced, Removed, InsertSays, InsertKeeps, RemoveSays, RemoveKeeps}
+use Rattle.routes.proofs.Slots.{next_slot, slots_rise, count_room, with_room, room_is}
 use Rattle.routes.proofs.Lists.{length_routes}
-use Rattle.trie.specs.Shape.{TrieOf}
 use Rattle.trie.specs.Places.{Apart}
 use Rattle.table.specs.Changes.{PutFull, AwayNone}
-use Rattle.table.specs.Right.{Mapped, Right, stride, room, row_length, most_nodes, default_at, listed, default, nodes, trie}
+use Rattle.table.specs.Right.{Mapped, Right, stride, room, row_length, default_at, listed, nodes, trie}
 
 -- a list in order whose members are good is good
 absent_all : (r : Route) (rs : List Route) → ((j : ℕ) → j < length rs → before r (get_or rs j no_route) ≡ true) → absent r rs ≡ true

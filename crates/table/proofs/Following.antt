@@ -1,5 +1,5 @@
 -- The default and the trie of a table made those of its list again, step by step. Assumes nothing.
-use Rattle.std.proofs.Common.{◌≡◌, ℕ, zero, suc, ◌+◌, ◌-◌, ◌*◌, ◌/◌, ◌%◌, ◌^◌, ◌<◌, ◌≤◌, Bool, true, ◌≢◌, List, length, get_or, drop, set, sym, refl, ap, ◌∙◌, subst, mod-eq_of_lt, zero-mul, arith}
+use Rattle.std.proofs.Common.{◌≡◌, ℕ, zero, suc, ◌+◌, ◌-◌, ◌*◌, ◌/◌, ◌%◌, ◌^◌, ◌<◌, ◌≤◌, Bool, true, ◌≢◌, List, length, get_or, drop, set, sym, refl, ap, ◌∙◌, mod-eq_of_lt, zero-mul, arith}
 use Rattle.std.proofs.lemmas.List.{length-set, get_or-set_same, get_or-set_other, drop-set-lt}
 use Rattle.std.proofs.lemmas.Bool.Decides.{nat_tests}
 use Rattle.prefix.specs.Words.{width}
@@ -7,14 +7,13 @@ use Rattle.prefix.specs.Routes.{Route, route_of, first, good, good_prefix, held}
 use Rattle.prefix.specs.Map.{Hops, hops}
 use Rattle.prefix.proofs.Good.{fine, in_good}
 use Rattle.prefix.proofs.Edits.{held_in}
-use Rattle.trie.specs.Nodes.{said, goes}
 use Rattle.trie.specs.Shape.{local, Deeper, TrieOf}
 use Rattle.trie.specs.Places.{Apart}
 use Rattle.trie.proofs.Changes.{change}
-use Rattle.grow.specs.Ways.{depth_of, WayMade, WayFound}
+use Rattle.grow.specs.Ways.{WayMade, WayFound}
 use Rattle.grow.proofs.Renewals.{node_fits, put_done, words_renewed}
 use Rattle.prune.specs.Free.{WithWay}
-use Rattle.table.specs.Right.{Mapped, Right, Sound, room, row_length, most_nodes, default_at, listed, default, nodes, trie}
+use Rattle.table.specs.Right.{Mapped, Right, Sound, room, row_length, default_at, listed, default, nodes, trie}
 use Rattle.table.specs.Follows.{Front, Beside, Renewed, DefaultSet}
 use Rattle.table.proofs.Lent.{front_room, front_listed, beside_trans}
 

@@ -1,16 +1,16 @@
 -- An empty table is right. Assumes nothing.
-use Rattle.std.proofs.Common.{◌≡◌, ℕ, ◌+◌, ◌-◌, ◌*◌, ◌^◌, ◌<◌, ◌≤◌, true, cond, ◌&&◌, leb, List, [], length, get_or, take, drop, set, sym, refl, ap, ◌∙◌, subst, arith}
+use Rattle.std.proofs.Common.{◌≡◌, ℕ, ◌+◌, ◌-◌, ◌^◌, ◌<◌, ◌≤◌, true, List, [], length, get_or, take, drop, set, sym, refl, ap, ◌∙◌, arith}
 use borrow.Rule.Slice.PartMut.{put_mid, same_len_mid}
 use Rattle.std.proofs.lemmas.List.{places, length-set, length-drop, length-take-le, get_or-set_same, get_or-set_other, get_or-drop, nil_from_length}
 use Rattle.std.proofs.lemmas.Bool.Decides.{nat_tests}
 use Rattle.prefix.specs.Words.{width}
 use Rattle.prefix.specs.Routes.{Route, held, good, InOrder}
 use Rattle.prefix.specs.Map.{hops}
-use Rattle.routes.specs.Rows.{slot, listing, count_in}
+use Rattle.routes.specs.Rows.{count_in}
 use Rattle.routes.proofs.Lists.{length_routes}
 use Rattle.trie.specs.Shape.{TrieOf}
 use Rattle.trie.proofs.Theorems.{empty}
-use Rattle.table.specs.Right.{Right, stride, room, most_nodes, default_at, row_length, listed, default, nodes, trie}
+use Rattle.table.specs.Right.{Right, stride, room, most_nodes, default_at, row_length, listed, nodes, trie}
 
 -- a row with these numbers, whatever else it holds
 pub record Blank (words : ℕ) (row : List ℕ) (wanted : ℕ) : Type 0 where

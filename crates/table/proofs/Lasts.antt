@@ -1,10 +1,10 @@
 -- The last route of a list in order: no longer one shares its cells, so each of these says its hop. Assumes nothing.
-use Rattle.std.proofs.Common.{◌≡◌, ℕ, zero, suc, ◌+◌, ◌-◌, ◌*◌, ◌/◌, ◌%◌, ◌^◌, ◌<◌, ◌≤◌, Bool, true, false, List, [], ◌∷◌, length, get_or, sym, refl, ap, ◌∙◌, inl, inr, ⊎_elim, mul-le-mul_right, mul_assoc, mul_comm, arith}
-use Rattle.std.proofs.lemmas.Nat.{div-add-mod', pow_pos, pow-add, shr-shr}
+use Rattle.std.proofs.Common.{◌≡◌, ℕ, zero, suc, ◌+◌, ◌-◌, ◌*◌, ◌/◌, ◌^◌, ◌<◌, ◌≤◌, true, false, List, length, get_or, sym, ap, ◌∙◌, ⊎_elim, mul-le-mul_right, mul_assoc, arith}
+use Rattle.std.proofs.lemmas.Nat.{div-add-mod', pow-add, shr-shr}
 use Rattle.std.proofs.lemmas.Bool.{cases_eq, cases_lt}
 use Rattle.std.proofs.lemmas.Bool.Decides.{nat_tests}
-use Rattle.prefix.specs.Routes.{Route, route_of, no_route, first, same_prefix, before, good, held, In, InOrder}
-use Rattle.prefix.specs.Map.{Hops, hops, or_else}
+use Rattle.prefix.specs.Routes.{Route, route_of, no_route, first, same_prefix, good, held, InOrder}
+use Rattle.prefix.specs.Map.{Hops, hops}
 use Rattle.prefix.proofs.Good.{Fine, fine, in_good}
 use Rattle.prefix.proofs.Edits.{held_in}
 use Rattle.trie.specs.Shape.{local}

@@ -1,10 +1,9 @@
 -- The last part of a row lent on: what the row holds afterwards, part by part. Assumes nothing.
-use Rattle.std.proofs.Common.{◌≡◌, ℕ, ◌+◌, ◌-◌, ◌*◌, ◌<◌, ◌≤◌, ◌≢◌, List, length, get_or, take, drop, set, sym, refl, ap, ◌∙◌, subst, arith}
+use Rattle.std.proofs.Common.{◌≡◌, ℕ, ◌+◌, ◌-◌, ◌<◌, ◌≤◌, List, length, get_or, take, drop, set, ap, ◌∙◌, arith}
 use borrow.Rule.Slice.PartMut.{put_mid, same_len_mid}
 use Rattle.std.proofs.lemmas.List.{places, ext_get_or, length-drop, length-take-le, length-set, get_or-drop, get_or-set_same, get_or-set_other, drop-set-lt, take_all}
-use Rattle.routes.specs.Rows.{slot}
 use Rattle.routes.proofs.Moves.{same_front}
-use Rattle.table.specs.Right.{stride, room, default_at, listed, default, nodes, trie}
+use Rattle.table.specs.Right.{stride, room, default_at, listed, nodes, trie}
 use Rattle.table.specs.Follows.{Front, Beside}
 
 -- a row whose last part, from a place on, was lent and is now another

@@ -1,16 +1,16 @@
 -- What a right table is in plain words. Assumes nothing.
-use Rattle.std.proofs.Common.{◌≡◌, ℕ, ◌+◌, ◌-◌, ◌*◌, ◌/◌, ◌^◌, ◌<◌, ◌≤◌, ◌≢◌, List, length, get_or, drop, sym, refl, ap, ◌∙◌, ⊎_elim, arith}
+use Rattle.std.proofs.Common.{◌≡◌, ℕ, ◌+◌, ◌-◌, ◌*◌, ◌/◌, ◌^◌, ◌<◌, ◌≤◌, ◌≢◌, List, length, ◌∙◌, ⊎_elim, arith}
 use Rattle.std.proofs.lemmas.Nat.{shr_below, mul-le}
 use Rattle.std.proofs.lemmas.List.{length-drop}
 use Rattle.std.proofs.lemmas.Bool.{cases_eq}
 use Rattle.prefix.specs.Words.{width}
-use Rattle.prefix.specs.Map.{Hops, or_else}
+use Rattle.prefix.specs.Map.{Hops}
 use Rattle.routes.proofs.Lists.{length_routes}
 use Rattle.routes.proofs.Slots.{count_low}
 use Rattle.trie.specs.Nodes.{goes}
 use Rattle.trie.proofs.Descent.{looked_answer}
 use Rattle.trie.proofs.Theorems.{room_enough}
-use Rattle.table.specs.Right.{Mapped, Right, stride, room, most_nodes, default_at, listed, nodes, trie}
+use Rattle.table.specs.Right.{Mapped, stride, room, most_nodes, default_at, listed, nodes, trie}
 use Rattle.table.specs.Answers.{RightMeans}
 
 -- a right table has no more routes than room

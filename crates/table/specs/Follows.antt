@@ -1,5 +1,5 @@
 -- What is left of a row when its default and its trie are made to follow its list. Assumes nothing: these are definitions.
-use Rattle.std.specs.Prelude.{◌≡◌, ℕ, ◌+◌, ◌*◌, ◌<◌, ◌≤◌, Bool, true, ◌≢◌, List, length, nat_le, slice_index, slice_index_or, slice_set}
+use Rattle.std.specs.Prelude.{◌≡◌, ℕ, ◌+◌, ◌*◌, ◌<◌, Bool, true, ◌≢◌, List, length, nat_le, slice_index, slice_index_or, slice_set}
 use Rattle.prefix.specs.Words.{width}
 use Rattle.prefix.specs.Routes.{route_of, no_route, first, good, good_prefix, held, InOrder}
 use Rattle.prefix.specs.Map.{Hops, hops}

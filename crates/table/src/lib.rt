@@ -1,5 +1,6 @@
 // The whole table in one lent row: the ordered route list, the default and the trie. docs/TABLE.md has the row's format, and specs/Right.antt says when a row is right.
 #![tactic(auto)]
+
 mod anew;
 mod changes;
 mod entries;

@@ -1,5 +1,5 @@
 -- Each turn halves what is left, and keeps the routes on both sides as they should be.
-use Rattle.std.proofs.Common.{ℕ, ◌+◌, ◌-◌, ◌/◌, ◌<◌, ◌≤◌, arith}
+use Rattle.std.proofs.Common.{arith}
 use Rattle.routes.proofs.Lists.{length_routes}
 use Rattle.routes.proofs.Slots.{count_low}
 use Rattle.beneath.proofs.parts.end_from.Goals as goal

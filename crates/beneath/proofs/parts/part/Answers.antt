@@ -1,5 +1,5 @@
 -- What is lent is what the routes of the span take of the row.
-use Rattle.std.proofs.Common.{◌≡◌, ℕ, ◌+◌, ◌-◌, ◌*◌, ◌<◌, ◌≤◌, [], length, subst, arith}
+use Rattle.std.proofs.Common.{◌≡◌, ℕ, ◌+◌, ◌-◌, ◌≤◌, [], length, subst, arith}
 use Rattle.routes.specs.Rows.{slot}
 use Rattle.routes.proofs.Lists.{length_routes}
 use Rattle.beneath.proofs.Together.{none_taken, part_of_span}

@@ -1,5 +1,5 @@
 -- The list is changed, and the trie after it.
-use Rattle.std.proofs.Common.{◌≡◌, suc, length, sym, refl, ap, ◌∙◌, arith}
+use Rattle.std.proofs.Common.{refl, ◌∙◌}
 use Rattle.table.proofs.Lent.{front_room, front_listed}
 use Rattle.table.proofs.Changing.{away_at, none_at}
 use Rattle.table.proofs.changes.away.Goals as goal

@@ -1,5 +1,4 @@
 -- In place where that is done; else the list, which no step touched, is sound, and the trie is made anew from it.
-use Rattle.std.proofs.Common.{◌≡◌, refl}
 use Rattle.table.proofs.Lent.{front_trans}
 use Rattle.table.proofs.Following.{sound_still}
 use Rattle.table.proofs.changes.follow.Goals as goal

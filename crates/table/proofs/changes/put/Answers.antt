@@ -1,5 +1,5 @@
 -- The list is changed, and the trie after it.
-use Rattle.std.proofs.Common.{◌≡◌, sym, refl, ap, ◌∙◌, arith}
+use Rattle.std.proofs.Common.{◌∙◌}
 use Rattle.prefix.specs.Words.{width}
 use Rattle.prefix.specs.Routes.{route_of}
 use Rattle.table.proofs.Lent.{front_room, front_listed}

@@ -1,5 +1,5 @@
 -- One change more.
-use Rattle.std.proofs.Common.{◌≡◌, refl, arith}
+use Rattle.std.proofs.Common.{refl}
 use Rattle.std.proofs.lemmas.List.{take_more, take_all}
 use Rattle.table.specs.declared.entries.Change.TheVariants.{Put}
 use Rattle.table.proofs.Refusals.{carried_on}

@@ -1,5 +1,5 @@
 -- A row that ends before its nodes begin counts none.
-use Rattle.std.proofs.Common.{◌≡◌, ℕ, zero, suc, ◌+◌, ◌<◌, ◌≤◌, List, [], ◌∷◌, length, get_or, sym, refl, arith}
+use Rattle.std.proofs.Common.{◌≡◌, ℕ, zero, suc, ◌≤◌, List, [], ◌∷◌, length, get_or, sym, refl, arith}
 use Rattle.table.proofs.entries.nodes.Goals as goal
 
 past_end : (row : List ℕ) (i : ℕ) → length row ≤ i → get_or row i 0 ≡ 0

@@ -1,5 +1,5 @@
 -- The refusals in their order, and then what putting says.
-use Rattle.std.proofs.Common.{◌≡◌, refl, inl, inr, arith}
+use Rattle.std.proofs.Common.{refl, inl, inr}
 use Rattle.table.proofs.Refusals.{no_prefix, too_high, fine, fine_route, says_at}
 use Rattle.table.proofs.entries.put_entry.Goals as goal
 

@@ -1,5 +1,5 @@
 -- What taking away says; no good route is longer than 32 bits.
-use Rattle.std.proofs.Common.{◌≡◌, refl, inl, inr, arith}
+use Rattle.std.proofs.Common.{refl, inl, inr}
 use Rattle.table.proofs.Refusals.{too_long}
 use Rattle.table.proofs.entries.take_away.Goals as goal
 

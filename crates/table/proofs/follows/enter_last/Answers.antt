@@ -1,5 +1,5 @@
 -- The prefix of no bits is the default's; of every other the way is made, and then the words.
-use Rattle.std.proofs.Common.{◌≡◌, ℕ, ◌<◌, ◌≤◌, true, sym, refl, ap, ◌∙◌, arith}
+use Rattle.std.proofs.Common.{refl, arith}
 use Rattle.std.proofs.lemmas.Bool.{both_ways}
 use Rattle.prefix.specs.Words.{width}
 use Rattle.table.proofs.Lasts.{last_kept}

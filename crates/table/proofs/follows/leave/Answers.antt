@@ -1,5 +1,4 @@
 -- The prefix of no bits is the default's; every other is the trie's.
-use Rattle.std.proofs.Common.{◌≡◌, refl}
 use Rattle.table.proofs.Following.{defaulted_at, default_front}
 use Rattle.table.proofs.follows.leave.Goals as goal
 

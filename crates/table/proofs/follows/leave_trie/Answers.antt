@@ -1,8 +1,6 @@
 -- The words are made new, and then what is empty is given back.
-use Rattle.std.proofs.Common.{◌≡◌, ℕ, true, sym, refl, subst, arith}
+use Rattle.std.proofs.Common.{refl}
 use Rattle.prefix.specs.Words.{width}
-use Rattle.prefix.specs.Map.{hops}
-use Rattle.table.specs.Right.{listed}
 use Rattle.table.proofs.Lent.{front_trans}
 use Rattle.table.proofs.Following.{good_short, left}
 use Rattle.table.proofs.follows.leave_trie.Goals as goal

@@ -1,5 +1,5 @@
 -- What the list holds of the prefix is written where the default stands.
-use Rattle.std.proofs.Common.{◌≡◌, ℕ, ◌+◌, ◌≤◌, sym, refl, ap, ◌∙◌, arith}
+use Rattle.std.proofs.Common.{◌∙◌, arith}
 use Rattle.prefix.specs.Words.{width}
 use Rattle.table.specs.Right.{listed}
 use Rattle.table.proofs.Following.{default_written, held_low}

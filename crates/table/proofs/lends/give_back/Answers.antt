@@ -1,5 +1,5 @@
 -- The nodes are lent on, and come back without those that were empty.
-use Rattle.std.proofs.Common.{◌≡◌, ℕ, ◌+◌, sym, refl, ap, ◌∙◌, arith}
+use Rattle.std.proofs.Common.{◌+◌, refl}
 use Rattle.std.proofs.lemmas.Bool.{both_ways}
 use Rattle.table.proofs.Lent.{lent_tail, lent_beside, tail_beside, tail_nodes, tail_trie, part_is, count_is}
 use Rattle.table.proofs.lends.give_back.Goals as goal

@@ -1,5 +1,5 @@
 -- A key has at most four words, so nothing passes what a number holds.
-use Rattle.std.proofs.Common.{ℕ, ◌-◌, ◌*◌, ◌≤◌, arith}
+use Rattle.std.proofs.Common.{◌-◌, ◌*◌, arith}
 use Rattle.std.proofs.lemmas.Nat.{mul-le}
 use Rattle.table.proofs.lends.hints_place.Goals as goal
 

@@ -1,5 +1,5 @@
 -- The nodes are lent on, and come back with the way made.
-use Rattle.std.proofs.Common.{◌≡◌, ℕ, ◌+◌, ◌-◌, ◌*◌, ◌≤◌, length, sym, refl, ap, ◌∙◌, arith}
+use Rattle.std.proofs.Common.{◌+◌, refl}
 use Rattle.table.specs.Right.{listed}
 use Rattle.table.proofs.Lent.{lent_tail, lent_beside, tail_beside, tail_nodes, tail_trie, part_is, count_is}
 use Rattle.table.proofs.Means.{nodes_fit}

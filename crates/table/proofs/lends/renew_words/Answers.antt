@@ -1,5 +1,5 @@
 -- The nodes are lent on, and come back with other words.
-use Rattle.std.proofs.Common.{◌≡◌, ℕ, ◌+◌, sym, refl, ap, ◌∙◌, arith}
+use Rattle.std.proofs.Common.{◌+◌}
 use Rattle.table.proofs.Lent.{lent_tail, lent_beside, lent_count, lent_trie, part_is}
 use Rattle.table.proofs.lends.renew_words.Goals as goal
 

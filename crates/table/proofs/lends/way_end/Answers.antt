@@ -1,5 +1,4 @@
 -- The nodes are the row's last part.
-use Rattle.std.proofs.Common.{◌≡◌, arith}
 use Rattle.table.proofs.Lent.{part_is, count_is}
 use Rattle.table.proofs.lends.way_end.Goals as goal
 

@@ -1,5 +1,5 @@
 -- The nodes are lent on, and come back with one word in all cells of the prefix.
-use Rattle.std.proofs.Common.{◌≡◌, ℕ, suc, ◌+◌, ◌*◌, ◌%◌, ◌<◌, length, get_or, replicate, sym, refl, ap, ◌∙◌, arith}
+use Rattle.std.proofs.Common.{◌≡◌, suc, ◌+◌, ◌%◌, replicate, sym, ◌∙◌, arith}
 use Rattle.std.proofs.lemmas.List.{get_or-replicate}
 use Rattle.prefix.specs.Words.{width}
 use Rattle.table.specs.Right.{listed}

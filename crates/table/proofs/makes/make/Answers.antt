@@ -1,5 +1,5 @@
 -- The writes leave a blank table.
-use Rattle.std.proofs.Common.{◌≡◌, ℕ, ◌+◌, ◌-◌, ◌*◌, ◌^◌, ◌<◌, ◌≤◌, sym, refl, ap, ◌∙◌, arith}
+use Rattle.std.proofs.Common.{refl, arith}
 use Rattle.table.proofs.Fresh.{blank_of, blank_right}
 use Rattle.table.proofs.makes.make.Goals as goal
 

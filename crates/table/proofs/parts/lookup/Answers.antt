@@ -1,12 +1,12 @@
 -- The nodes are the row's behind the default and the count, and the trie's lookup answers as the list there.
-use Rattle.std.proofs.Common.{◌≡◌, ℕ, ◌+◌, ◌*◌, ◌<◌, ◌≤◌, Bool, true, cond, leb, List, length, get_or, drop, sym, refl, ap, ◌∙◌, subst, arith}
+use Rattle.std.proofs.Common.{◌≡◌, ℕ, ◌+◌, ◌*◌, Bool, true, cond, leb, List, length, get_or, drop, sym, ap, ◌∙◌, subst, arith}
 use Rattle.std.proofs.lemmas.List.{take_rest}
 use Rattle.std.proofs.lemmas.Bool.Decides.{nat_tests}
 use Rattle.prefix.specs.Words.{width}
 use Rattle.prefix.specs.Map.{or_else, hops}
 use Rattle.trie.specs.Nodes.{nibbles, looked}
 use Rattle.trie.specs.Shape.{TrieOf}
-use Rattle.table.specs.Right.{Right, room, default_at, listed, default, nodes, trie}
+use Rattle.table.specs.Right.{room, default_at, listed, default, nodes}
 use Rattle.table.specs.Answers.{answers}
 use Rattle.table.proofs.parts.lookup.Goals as goal
 

@@ -1,5 +1,5 @@
 -- Bit by bit up to the prefix, and then what the list holds of it.
-use Rattle.std.proofs.Common.{◌≡◌, ℕ, ◌-◌, ◌/◌, ◌^◌, ◌<◌, sym, ap, ◌∙◌, arith}
+use Rattle.std.proofs.Common.{ℕ, ◌-◌, ◌/◌, ◌^◌, ap, ◌∙◌, arith}
 use Rattle.prefix.specs.Words.{width}
 use Rattle.prefix.specs.Map.{hops}
 use Rattle.table.specs.Right.{listed}

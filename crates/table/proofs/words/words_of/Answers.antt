@@ -1,5 +1,5 @@
 -- Length by length, until all four are gone through.
-use Rattle.std.proofs.Common.{◌≡◌, ℕ, ◌+◌, ◌-◌, ◌*◌, ◌/◌, ◌^◌, sym, refl, ap, ◌∙◌, arith}
+use Rattle.std.proofs.Common.{◌≡◌, ℕ, ◌+◌, ◌-◌, ◌*◌, ◌/◌, sym, ap, ◌∙◌, arith}
 use Rattle.prefix.specs.Words.{width}
 use Rattle.prefix.specs.Map.{hops, or_else}
 use Rattle.table.specs.Right.{listed}
