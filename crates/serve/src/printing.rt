@@ -55,7 +55,7 @@ fn write_routes<W: fmt::Write>(
     from: usize,
     to: usize,
 ) -> fmt::Result
-    ensures { WritesOnOk write_str_gives f.old result (lines opening.now (between from to (routes 1 3 row.now))) f.new }
+    ensures { WritesOnOk W.write_str_gives f.old result (lines opening.now (between from to (routes 1 3 row.now))) f.new }
 {
     for k in from..to {
         let Some((prefix, hop)) = routes::route::<u32>(row, 3, k) else {
@@ -72,7 +72,7 @@ fn write_route<W: fmt::Write>(
     prefix: Prefix<u32>,
     hop: u32,
 ) -> fmt::Result
-    ensures { WritesOnOk write_str_gives f.old result (route_line opening.now (route_of prefix.bits prefix.len hop)) f.new }
+    ensures { WritesOnOk W.write_str_gives f.old result (route_line opening.now (route_of prefix.bits prefix.len hop)) f.new }
 {
     let (address, len) = (Dotted(prefix.bits), prefix.len);
     writeln!(f, "{opening}{address} {len} to {hop}")

@@ -13,9 +13,9 @@ use Rattle.serve.proofs.commands.execute.Goals as goal
 pub returns-in-Put : goal.returns-in-Put
 returns-in-Put c =
     let long = c.put.auto.row in
-    let lent = c.deref-mut.ensures.len in
+    let lent = c.deref_mut.ensures.len in
     let same = with_items_is c.args.row.now c.put.new.row (omega arith) in
-    let says : Serves (vec_items c.args.row.now) c.put.new.row c.args.command c.put.result = rw (c.in-Put.is, ← c.deref-mut.ensures.value) c.put.ensures in
+    let says : Serves (vec_items c.args.row.now) c.put.new.row c.args.command c.put.result = rw (c.in-Put.is, ← c.deref_mut.ensures.value) c.put.ensures in
     record {
       says = subst (λ (l : List ℕ). Serves (vec_items c.args.row.now) l c.args.command c.put.result) (sym same) says;
       right = λ right. subst (Right 1) (sym same) (serves_right _ _ c.args.command c.put.result says right);
@@ -24,9 +24,9 @@ returns-in-Put c =
 pub returns-in-Away : goal.returns-in-Away
 returns-in-Away c =
     let long = c.away.auto.row in
-    let lent = c.deref-mut-in-Away.ensures.len in
+    let lent = c.deref_mut-in-Away.ensures.len in
     let same = with_items_is c.args.row.now c.away.new.row (omega arith) in
-    let says : Serves (vec_items c.args.row.now) c.away.new.row c.args.command c.away.result = rw (c.in-Away.is, ← c.deref-mut-in-Away.ensures.value) c.away.ensures in
+    let says : Serves (vec_items c.args.row.now) c.away.new.row c.args.command c.away.result = rw (c.in-Away.is, ← c.deref_mut-in-Away.ensures.value) c.away.ensures in
     record {
       says = subst (λ (l : List ℕ). Serves (vec_items c.args.row.now) l c.args.command c.away.result) (sym same) says;
       right = λ right. subst (Right 1) (sym same) (serves_right _ _ c.args.command c.away.result says right);

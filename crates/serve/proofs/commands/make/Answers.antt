@@ -18,7 +18,7 @@ converted (Err error) P n m e h = absurd (let z : ◌≡◌ {A = ℕ} 0 1 = cc i
 pub returns : goal.returns
 returns c =
     let long = c.make_empty.auto.table in
-    let lent = c.deref-mut.ensures.len in
+    let lent = c.deref_mut.ensures.len in
     let same = with_items_is c.in_ok-row.row c.make_empty.new.table (omega arith) in
     let m = made _ c.make_empty.new.table c.in_ok-room.room c.make_empty.result _ c.in_ok-ok.ensures.value c.make_empty.ensures in
     let fits = converted c.try_from.result _ c.in_ok-room.room c.args.wanted c.in_ok-room.ensures.value c.try_from.ensures in
