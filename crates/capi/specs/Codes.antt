@@ -1,5 +1,5 @@
 -- What the functions for C answer, over what the entries beneath them say. Assumes nothing: these are definitions.
-use Rattle.std.specs.Prelude.{◌≡◌, Bool, true, false, cond, List, [], ℕ, ◌+◌, ◌-◌, ◌*◌, ◌^◌, ◌≤◌, ◌<◌, ltb, length}
+use Rattle.std.specs.Prelude.{◌≡◌, Bool, true, false, cond, List, [], ℕ, ◌+◌, ◌^◌, ◌≤◌, ◌<◌, ltb, length}
 use Rattle.prefix.specs.Routes.{route_of}
 use Rattle.routes.specs.Rows.{slot}
 use Rattle.beneath.specs.Parts.{SpanSays}

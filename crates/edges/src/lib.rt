@@ -1,5 +1,6 @@
 // Lines at the edges of what can be read, each with its answer: the tests of `lines` and `serve`, in a crate of their own so that these are not proved twice.
 #![tactic(auto)]
+
 #[cfg(test)]
 mod lines;
 #[cfg(test)]

@@ -1,5 +1,6 @@
 // The program: it reads commands from standard input, one a line, and prints what the table answers to each.
 #![tactic(auto)]
+
 mod tables;
 
 use anyhow::anyhow;

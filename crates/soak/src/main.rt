@@ -1,5 +1,6 @@
 // Tables run for long, from a seed: random changes, with the trie compared with the plain scan after each; and lookups in rows of any numbers.
 #![tactic(auto)]
+
 use anyhow::anyhow;
 
 mod chance;

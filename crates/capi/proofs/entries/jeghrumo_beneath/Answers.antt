@@ -1,8 +1,8 @@
 -- There are fewer than 2 ^ 32 routes, so the place fits.
 use mathlib.Core.List.{List}
-use Prim.Native.Nat.{ℕ, ◌+◌, ◌*◌, ◌^◌, ◌≤◌, ◌<◌}
+use Prim.Native.Nat.{ℕ, ◌^◌, ◌<◌}
 use native.Mathlib.Omega.{arith}
-use lib.ListN.{length, get_or}
+use lib.ListN.{get_or}
 use Rattle.beneath.specs.Parts.{SpanSays}
 use Rattle.routes.proofs.Lists.{length_routes}
 use Rattle.routes.proofs.Slots.{count_low}

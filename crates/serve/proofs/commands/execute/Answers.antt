@@ -1,9 +1,8 @@
 -- Each command: a change is that of the row that the vector lends, and what is only read stays.
-use Rattle.std.proofs.Common.{◌≡◌, ℕ, List, vec_items, sym, refl, ap, ◌∙◌, subst, arith}
+use Rattle.std.proofs.Common.{ℕ, List, vec_items, sym, refl, ap, ◌∙◌, subst, arith}
 use Rattle.std.proofs.lemmas.List.{with_items_is}
 use Rattle.table.specs.Right.{Right}
 use Rattle.routes.proofs.Lists.{length_routes}
-use Rattle.lines.specs.declared.lines.Command.{Command}
 use Rattle.lines.specs.declared.lines.Command.TheVariants as command
 use Rattle.serve.specs.Serves.{Serves}
 use Rattle.serve.specs.declared.replies.Reply.TheVariants.{Listed}

@@ -1,5 +1,5 @@
 -- What was made is an empty table with the room that was wanted.
-use Rattle.std.proofs.Common.{◌≡◌, ℕ, List, [], length, Some, Ok, Err, Result, sym, ap, ◌∙◌, subst, arith}
+use Rattle.std.proofs.Common.{◌≡◌, ℕ, List, [], Some, Ok, Err, Result, sym, ◌∙◌, subst, arith}
 use Rattle.std.specs.Result.{OkIff, result_ok}
 use Rattle.std.proofs.lemmas.List.{with_items_is}
 use Rattle.table.specs.Right.{Right, listed, room}

@@ -1,7 +1,7 @@
 -- Each turn writes one line more.
-use Rattle.std.proofs.Common.{◌≡◌, ℕ, ◌+◌, ◌-◌, ◌<◌, ◌≤◌, List, ◌++◌, take, drop, sym, refl, ap, ◌∙◌, subst, arith}
+use Rattle.std.proofs.Common.{◌≡◌, ℕ, ◌-◌, ◌≤◌, List, ◌++◌, take, drop, sym, refl, ap, ◌∙◌, subst, arith}
 use Rattle.std.specs.Fmt.{HasWritten}
-use Rattle.prefix.specs.Routes.{Route, route_of}
+use Rattle.prefix.specs.Routes.{Route}
 use Rattle.routes.specs.Rows.{routes}
 use Rattle.serve.specs.Replies.{route_line, lines, between}
 use Rattle.serve.proofs.Lines.{lines_none, lines_more, lines_all}

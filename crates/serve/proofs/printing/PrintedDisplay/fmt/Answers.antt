@@ -1,5 +1,5 @@
 -- Replies of several lines: the routes, and then how many they are.
-use Rattle.std.proofs.Common.{◌≡◌, ℕ, ◌++◌, codes, decimal as figures, refl, subst}
+use Rattle.std.proofs.Common.{ℕ, ◌++◌, codes, decimal as figures, refl, subst}
 use Rattle.std.specs.Fmt.{HasWritten}
 use Rattle.serve.proofs.Writes.{put_then}
 use Rattle.serve.proofs.printing.PrintedDisplay.fmt.Goals as goal
