@@ -20,13 +20,18 @@ pub fn way_end<K: Key>(nodes: &[u32], count: u32, prefix: Prefix<K>) -> Option<u
     follow(nodes, count, 0, prefix.bits, prefix.len)
 }
 
-// Goes on from a node of the way, with the first bits of what is left of the prefix.
-fn follow<K: Key>(nodes: &[u32], count: u32, start: u32, bits: K, long: u32) -> Option<u32>
-    ensures small { K.Key.num bits < 2 ^ width K.Key.words }
-    ensures below { start < count → IfSome result (λ n. n < count) }
-    ensures end { (m : Hops) (l q d : ℕ) → Ahead (width K.Key.words) l q d long (K.Key.num bits) → Walk (width K.Key.words) (local m) (Deeper m) l q d nodes.now count start → m l q ≢ 0 → MatchOption result ⊥ (λ n. WayFound (width K.Key.words) m l q nodes.now count n) }
+// Goes on from a node of the way, with what is left of the prefix.
+fn follow<K: Key>(
+    nodes: &[u32],
+    count: u32,
+    mut node: u32,
+    mut rest: K,
+    mut len: u32,
+) -> Option<u32>
+    ensures small { K.Key.num rest < 2 ^ width K.Key.words }
+    ensures below { node < count → IfSome result (λ n. n < count) }
+    ensures end { (m : Hops) (l q d : ℕ) → Ahead (width K.Key.words) l q d len (K.Key.num rest) → Walk (width K.Key.words) (local m) (Deeper m) l q d nodes.now count node → m l q ≢ 0 → MatchOption result ⊥ (λ n. WayFound (width K.Key.words) m l q nodes.now count n) }
 {
-    let (mut node, mut rest, mut len) = (start, bits, long);
     let mut nibble = rest.nibble();
     while len > 4 {
         node = named(nodes, count, node, nibble)?;

@@ -39,19 +39,18 @@ pub fn make_way<K: Key>(
     )
 }
 
-// Goes on from a node to which the way has been made, with the first bits of what is left of the prefix. A loop, so that nothing goes through memory from step to step.
+// Goes on from a node to which the way has been made, with what is left of the prefix. A loop, so that nothing goes through memory from step to step.
 fn descend<K: Key>(
     nodes: &mut [u32],
-    start: Place,
+    mut place: Place,
     hints: usize,
-    bits: K,
-    long: u32,
+    mut rest: K,
+    mut len: u32,
 ) -> Option<Place>
-    ensures small { K.Key.num bits < 2 ^ width K.Key.words }
-    ensures way { (m : Hops) (l q d : ℕ) → Ahead (width K.Key.words) l q d long (K.Key.num bits) → Walk (width K.Key.words) (local m) (Along m l q d) l q d nodes.old start.count start.node → IfSome result (λ p. WayMade (width K.Key.words) m l q nodes.new p.count p.node) }
-    ensures enough { (m : Hops) (rs : List Route) (l q d : ℕ) → Ahead (width K.Key.words) l q d long (K.Key.num bits) → Walk (width K.Key.words) (local m) (Along m l q d) l q d nodes.old start.count start.node → Apart m (hops (width K.Key.words) rs) l q → hops (width K.Key.words) rs l q ≢ 0 → Enough K.Key.words rs (length nodes.old) → is_some result ≡ true }
+    ensures small { K.Key.num rest < 2 ^ width K.Key.words }
+    ensures way { (m : Hops) (l q d : ℕ) → Ahead (width K.Key.words) l q d len (K.Key.num rest) → Walk (width K.Key.words) (local m) (Along m l q d) l q d nodes.old place.count place.node → IfSome result (λ p. WayMade (width K.Key.words) m l q nodes.new p.count p.node) }
+    ensures enough { (m : Hops) (rs : List Route) (l q d : ℕ) → Ahead (width K.Key.words) l q d len (K.Key.num rest) → Walk (width K.Key.words) (local m) (Along m l q d) l q d nodes.old place.count place.node → Apart m (hops (width K.Key.words) rs) l q → hops (width K.Key.words) rs l q ≢ 0 → Enough K.Key.words rs (length nodes.old) → is_some result ≡ true }
 {
-    let (mut place, mut rest, mut len) = (start, bits, long);
     let mut nibble = rest.nibble();
     while len > 4 {
         place = step_down(nodes, place, hints, nibble)?;

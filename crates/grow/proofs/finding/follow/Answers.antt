@@ -29,7 +29,7 @@ returns-in_err-node g c =
     let w : ℕ = width g.K.Key.words in
     let some = g.met.K.Key.some in
     record {
-      small = fits_width w (g.K.Key.num c.args.bits) (omega arith) (omega (arith, c.nibble-nibble.ensures.value, c.nibble-nibble.ensures.below));
+      small = fits_width w (g.K.Key.num c.args.rest) (omega arith) (omega (arith, c.nibble-nibble.ensures.value, c.nibble-nibble.ensures.below));
       below = λ h. MatchOption-from_none _ _ c.from_residual.ensures;
       end = λ m l q d x h n.
           let so = c.loop-len.invariant.3 m l q d x h n in
@@ -43,7 +43,7 @@ returns g c =
     let w : ℕ = width g.K.Key.words in
     let some = g.met.K.Key.some in
     record {
-      small = fits_width w (g.K.Key.num c.args.bits) (omega arith) (omega (arith, c.nibble-nibble.ensures.value, c.nibble-nibble.ensures.below));
+      small = fits_width w (g.K.Key.num c.args.rest) (omega arith) (omega (arith, c.nibble-nibble.ensures.value, c.nibble-nibble.ensures.below));
       below = c.loop-len.invariant.2;
       end = λ m l q d x h n.
           let so = c.loop-len.invariant.3 m l q d x h n in

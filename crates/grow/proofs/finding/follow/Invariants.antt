@@ -11,7 +11,7 @@ abbrev pub invariant-loop-len : goal.invariant-loop-len
 invariant-loop-len g l =
     (l.nibble ≡ g.K.Key.num l.rest / 2 ^ (width g.K.Key.words - 4)) × (l.nibble < 16)
     × (l.initial.node < l.count → l.node < l.count)
-    × ((m : Hops) (n q d : ℕ) → Ahead (width g.K.Key.words) n q d l.long (g.K.Key.num l.initial.rest) → Walk (width g.K.Key.words) (local m) (Deeper m) n q d l.nodes l.count l.initial.node → m n q ≢ 0
+    × ((m : Hops) (n q d : ℕ) → Ahead (width g.K.Key.words) n q d l.initial.len (g.K.Key.num l.initial.rest) → Walk (width g.K.Key.words) (local m) (Deeper m) n q d l.nodes l.count l.initial.node → m n q ≢ 0
     → (e : ℕ) × Ahead (width g.K.Key.words) n q e l.len (g.K.Key.num l.rest) × Walk (width g.K.Key.words) (local m) (Deeper m) n q e l.nodes l.count l.node)
 
 abbrev pub decreases-loop-len : goal.decreases-loop-len

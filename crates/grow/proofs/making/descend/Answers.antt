@@ -30,7 +30,7 @@ returns-in_err-place g c =
     let w : ℕ = width g.K.Key.words in
     let some = g.met.K.Key.some in
     record {
-      small = fits_width w (g.K.Key.num c.args.bits) (omega arith) (omega (arith, c.nibble-nibble.ensures.value, c.nibble-nibble.ensures.below));
+      small = fits_width w (g.K.Key.num c.args.rest) (omega arith) (omega (arith, c.nibble-nibble.ensures.value, c.nibble-nibble.ensures.below));
       way = λ m l q d x h. MatchOption-from_none _ _ c.from_residual.ensures;
       enough =
           λ m rs l q d x h apart n room.
@@ -47,7 +47,7 @@ returns g c =
     let w : ℕ = width g.K.Key.words in
     let some = g.met.K.Key.some in
     record {
-      small = fits_width w (g.K.Key.num c.args.bits) (omega arith) (omega (arith, c.nibble-nibble.ensures.value, c.nibble-nibble.ensures.below));
+      small = fits_width w (g.K.Key.num c.args.rest) (omega arith) (omega (arith, c.nibble-nibble.ensures.value, c.nibble-nibble.ensures.below));
       way = λ m l q d x h.
           let so = c.loop-len.invariant.3 m l q d x h in
           subst (λ (e : ℕ). Walk w (local m) (Along m l q e) l q e c.loop-len.nodes c.loop-len.place.count c.loop-len.place.node) (ahead_last so.1 (omega arith)) so.2;
