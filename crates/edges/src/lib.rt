@@ -2,6 +2,6 @@
 #![tactic(auto)]
 
 #[cfg(test)]
-mod lines;
+mod readings;
 #[cfg(test)]
 mod replies;
