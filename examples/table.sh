@@ -3,7 +3,6 @@
 set -eu
 cd "$(dirname "$0")/.."
 mkdir -p target
-rt staticlib capi >target/capi.log 2>&1 || { cat target/capi.log >&2; exit 1; }
-kit=$(dirname "$(dirname "$(readlink -f "$(command -v rt)")")")
-${CC:-cc} -Wall -Wextra -Werror -Iinclude examples/table.c target/staticlib/libcapi.a "$kit/lib/librattle_c.a" -o target/table
+(cd crates/capi && rt lib) >target/capi.log 2>&1 || { cat target/capi.log >&2; exit 1; }
+${CC:-cc} -Wall -Wextra -Werror -Iinclude examples/table.c crates/capi/out/libcapi.a -o target/table
 target/table
