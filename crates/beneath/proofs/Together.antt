@@ -9,7 +9,7 @@ use Rattle.prefix.proofs.Good.{fine, in_good}
 use Rattle.routes.specs.Rows.{slot, routes}
 use Rattle.routes.specs.Searches.{Boundary}
 use Rattle.routes.proofs.Order.{before_trans}
-use Rattle.beneath.specs.Parts.{SpanSays, PartSays, End}
+use Rattle.beneath.specs.Parts.{SpanSays, PartTaken, PartSays, End}
 
 -- what is 0 behind fewer bits is 0 behind more
 zero_behind : (w short len x : ℕ) → short ≤ len → len ≤ w → x % 2 ^ (w - short) ≡ 0 → x % 2 ^ (w - len) ≡ 0
@@ -125,18 +125,18 @@ none_taken stride row from to same =
     let z : to - from ≡ 0 = omega arith in
     sym (ap (λ (n : ℕ). take (stride * n) (drop (slot stride from) row)) z ∙ ap (λ (n : ℕ). take n (drop (slot stride from) row)) (mul-zero stride))
 
--- what the routes of the span take of the row is the part that the contract speaks of
-pub part_of_span : (words stride : ℕ) (row : List ℕ) (len bits from to : ℕ) (part : List ℕ) → SpanSays words stride row len bits from to → part ≡ take (stride * (to - from)) (drop (slot stride from) row) → PartSays words stride row len bits part
-part_of_span words stride row len bits from to part span is = record {
-  too_long = λ h. ap (λ (xs : List ℕ). length xs) (is ∙ sym (none_taken stride row from to (span.too_long h)));
+-- what the routes of a span take of the row is the part that the contract speaks of
+pub part_says : (words stride : ℕ) (row : List ℕ) (len bits : ℕ) (part : List ℕ) → PartTaken words stride row len bits part → PartSays words stride row len bits part
+part_says words stride row len bits part taken = record {
+  too_long = λ h. ap (λ (xs : List ℕ). length xs) (taken.lent ∙ sym (none_taken stride row taken.from taken.to (taken.span.too_long h)));
   lends = λ h proper order.
-      let after = span.after in
-      let same : from + (to - from) ≡ to = omega arith in
+      let after = taken.span.after in
+      let same : taken.from + (taken.to - taken.from) ≡ taken.to = omega arith in
       record {
-        from = from;
-        count = to - from;
-        within = omega (arith, span.within);
-        lent = is;
-        just = λ i k. span.just h proper order i k ∙ ap (λ (n : ℕ). leb from i && ltb i n) (sym same);
+        from = taken.from;
+        count = taken.to - taken.from;
+        within = omega (arith, taken.span.within);
+        lent = taken.lent;
+        just = λ i k. taken.span.just h proper order i k ∙ ap (λ (n : ℕ). leb taken.from i && ltb i n) (sym same);
       };
 }

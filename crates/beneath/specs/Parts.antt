@@ -12,6 +12,13 @@ pub record SpanSays (words stride : ℕ) (row : List ℕ) (len bits from to : �
   pub just : len ≤ width words → good (width words) (routes words stride row) ≡ true → InOrder (routes words stride row)
       → (i : ℕ) → i < length (routes words stride row) → beneath (width words) len bits (slice_index_or (routes words stride row) i no_route) ≡ (nat_le from i && nat_lt i to)
 
+-- the part is what the routes of such a span take of the row, whatever the row
+pub record PartTaken (words stride : ℕ) (row : List ℕ) (len bits : ℕ) (part : List ℕ) : Type 0 where
+  pub from : ℕ
+  pub to : ℕ
+  pub span : SpanSays words stride row len bits from to
+  pub lent : part ≡ take (stride * (to - from)) (drop (slot stride from) row)
+
 -- the routes beneath a prefix are those from one place on, so many; the part is what they take of the row
 pub record Part (words stride : ℕ) (row : List ℕ) (len bits : ℕ) (part : List ℕ) : Type 0 where
   pub from : ℕ

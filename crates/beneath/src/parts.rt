@@ -3,7 +3,7 @@ ghost use Rattle.std.specs.Prelude.{◌≡◌, ◌+◌, ◌-◌, ◌*◌, ◌^�
 ghost use Rattle.prefix.specs.Words.{width};
 ghost use Rattle.prefix.specs.Routes.{first, beneath, no_route};
 ghost use Rattle.routes.specs.Rows.{slot, routes};
-ghost use Rattle.beneath.specs.Parts.{SpanSays, PartSays, End};
+ghost use Rattle.beneath.specs.Parts.{SpanSays, PartTaken, PartSays, End};
 
 use prefix::{Key, Prefix};
 use routes::Extent;
@@ -17,7 +17,8 @@ pub struct Span {
 
 // The routes beneath a prefix, as they stand in the row. Bits behind the length are not looked at; a length that no key has gives an empty part.
 pub fn part<'a, K: Key>(row: &'a [u32], stride: usize, prefix: Prefix<K>) -> &'a [u32]
-    ensures { PartSays K.Key.words stride row.now prefix.len (K.Key.num prefix.bits) result.now }
+    ensures says { PartSays K.Key.words stride row.now prefix.len (K.Key.num prefix.bits) result.now }
+    ensures taken { PartTaken K.Key.words stride row.now prefix.len (K.Key.num prefix.bits) result.now }
 {
     let Span { from, to } = span_of(row, stride, prefix);
     if from == to {

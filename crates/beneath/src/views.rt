@@ -1,6 +1,6 @@
 // The routes beneath a prefix of 32 bits, from a table's row or from a view of it: three numbers each, bits, length and hop.
 ghost use Rattle.std.specs.Prelude.{◌≡◌, ◌<◌, ◌≤◌, MatchOption};
-ghost use Rattle.beneath.specs.Parts.{SpanSays, PartSays};
+ghost use Rattle.beneath.specs.Parts.{SpanSays, PartTaken, PartSays};
 
 use crate::parts::{Span, part, span_of};
 use prefix::Prefix;
@@ -10,7 +10,8 @@ const STRIDE: usize = 3;
 
 // The routes beneath a prefix. Bits behind the length are not looked at; beneath a length above 32 there is nothing.
 pub fn beneath<'a>(table: &'a [u32], bits: u32, long: u64) -> &'a [u32]
-    ensures { PartSays 1 3 table.now long bits result.now }
+    ensures says { PartSays 1 3 table.now long bits result.now }
+    ensures taken { PartTaken 1 3 table.now long bits result.now }
 {
     match prefix_of(bits, long) {
         Some(prefix) => part(table, STRIDE, prefix),
@@ -43,7 +44,8 @@ impl<'a> View<'a> {
 
     // The routes beneath a prefix.
     pub fn beneath(&self, bits: u32, long: u64) -> &'a [u32]
-        ensures { PartSays 1 3 self.now.row.now long bits result.now }
+        ensures says { PartSays 1 3 self.now.row.now long bits result.now }
+        ensures taken { PartTaken 1 3 self.now.row.now long bits result.now }
     {
         beneath(self.row, bits, long)
     }

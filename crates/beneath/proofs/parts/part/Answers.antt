@@ -1,14 +1,22 @@
 -- What is lent is what the routes of the span take of the row.
 use Rattle.std.proofs.Common.{◌≡◌, ℕ, ◌+◌, ◌-◌, ◌≤◌, [], length, subst, arith}
 use Rattle.routes.specs.Rows.{slot}
+use Rattle.beneath.specs.Parts.{PartTaken}
 use Rattle.routes.proofs.Lists.{length_routes}
-use Rattle.beneath.proofs.Together.{none_taken, part_of_span}
+use Rattle.beneath.proofs.Together.{none_taken, part_says}
 use Rattle.beneath.proofs.Ends.{end_inside}
 use Rattle.beneath.proofs.parts.part.Goals as goal
 
 pub returns-then-from-to : goal.returns-then-from-to
 returns-then-from-to g c =
-    part_of_span g.K.Key.words c.args.stride c.args.row.now c.args.prefix.len (g.K.Key.num c.args.prefix.bits) c.span_of-from.result.from c.span_of-from.result.to [] c.span_of-from.ensures (none_taken c.args.stride c.args.row.now c.span_of-from.result.from c.span_of-from.result.to c.if-from-to.true)
+    let taken : PartTaken g.K.Key.words c.args.stride c.args.row.now c.args.prefix.len (g.K.Key.num c.args.prefix.bits) [] =
+    record {
+      from = c.span_of-from.result.from;
+      to = c.span_of-from.result.to;
+      span = c.span_of-from.ensures;
+      lent = none_taken c.args.stride c.args.row.now c.span_of-from.result.from c.span_of-from.result.to c.if-from-to.true;
+    } in
+    record { says = part_says _ _ _ _ _ _ taken; taken = taken }
 
 pub lend-requires : goal.lend-requires
 lend-requires g c =
@@ -20,4 +28,11 @@ lend-requires g c =
 
 pub returns : goal.returns
 returns g c =
-    part_of_span g.K.Key.words c.args.stride c.args.row.now c.args.prefix.len (g.K.Key.num c.args.prefix.bits) c.span_of-from.result.from c.span_of-from.result.to _ c.span_of-from.ensures c.lend.ensures
+    let taken : PartTaken g.K.Key.words c.args.stride c.args.row.now c.args.prefix.len (g.K.Key.num c.args.prefix.bits) c.lend.result.now =
+    record {
+      from = c.span_of-from.result.from;
+      to = c.span_of-from.result.to;
+      span = c.span_of-from.ensures;
+      lent = c.lend.ensures;
+    } in
+    record { says = part_says _ _ _ _ _ _ taken; taken = taken }
