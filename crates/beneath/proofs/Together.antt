@@ -125,6 +125,10 @@ none_taken stride row from to same =
     let z : to - from ≡ 0 = omega arith in
     sym (ap (λ (n : ℕ). take (stride * n) (drop (slot stride from) row)) z ∙ ap (λ (n : ℕ). take n (drop (slot stride from) row)) (mul-zero stride))
 
+-- the routes of a span, and what they take of the row
+pub taken_by : (words stride : ℕ) (row : List ℕ) (len bits from to : ℕ) (part : List ℕ) → SpanSays words stride row len bits from to → part ≡ take (stride * (to - from)) (drop (slot stride from) row) → PartTaken words stride row len bits part
+taken_by words stride row len bits from to part span lent = record { from = from; to = to; span = span; lent = lent }
+
 -- what the routes of a span take of the row is the part that the contract speaks of
 pub part_says : (words stride : ℕ) (row : List ℕ) (len bits : ℕ) (part : List ℕ) → PartTaken words stride row len bits part → PartSays words stride row len bits part
 part_says words stride row len bits part taken = record {

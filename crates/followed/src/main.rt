@@ -1,4 +1,4 @@
-// The program: it reads commands from the files named, or from standard input, one a line, and prints what is replied to each. It only reads and prints; what a line does is said by `serve::respond`.
+// The next program, to take the place of `jeghrumo`: it reads commands from the files named, or from standard input, one a line, and prints what is replied to each. It only reads and prints; what a line does is said by `serve::respond`.
 #![tactic(auto)]
 
 ghost use Rattle.table.specs.Right.{Right};

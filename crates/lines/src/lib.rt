@@ -1,4 +1,4 @@
-// The text side of a routing table, for the program that serves one: a line is read into a command or refused, and commands and addresses are written.
+// The text side of a routing table, for `serve`, and to take the place of `text`: a line of bytes is read into a command or refused, and commands and addresses are written.
 #![tactic(auto)]
 
 mod addresses;

@@ -1,4 +1,4 @@
-// Tables run for long, from a seed: filled and emptied by random changes, with the trie compared with the plain scan after each; and lookups in rows of any numbers. `rounds ROUNDS SEED` runs as long as one likes.
+// The next soak, to take the place of `soak`. Tables run for long, from a seed: filled and emptied by random changes, with the trie compared with the plain scan after each; and lookups in rows of any numbers. `rounds ROUNDS SEED` runs as long as one likes.
 #![tactic(auto)]
 
 mod chance;

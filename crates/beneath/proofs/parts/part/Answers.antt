@@ -1,21 +1,15 @@
 -- What is lent is what the routes of the span take of the row.
 use Rattle.std.proofs.Common.{◌≡◌, ℕ, ◌+◌, ◌-◌, ◌≤◌, [], length, subst, arith}
 use Rattle.routes.specs.Rows.{slot}
-use Rattle.beneath.specs.Parts.{PartTaken}
 use Rattle.routes.proofs.Lists.{length_routes}
-use Rattle.beneath.proofs.Together.{none_taken, part_says}
+use Rattle.beneath.proofs.Together.{none_taken, taken_by, part_says}
 use Rattle.beneath.proofs.Ends.{end_inside}
 use Rattle.beneath.proofs.parts.part.Goals as goal
 
 pub returns-then-from-to : goal.returns-then-from-to
 returns-then-from-to g c =
-    let taken : PartTaken g.K.Key.words c.args.stride c.args.row.now c.args.prefix.len (g.K.Key.num c.args.prefix.bits) [] =
-    record {
-      from = c.span_of-from.result.from;
-      to = c.span_of-from.result.to;
-      span = c.span_of-from.ensures;
-      lent = none_taken c.args.stride c.args.row.now c.span_of-from.result.from c.span_of-from.result.to c.if-from-to.true;
-    } in
+    let none = none_taken c.args.stride c.args.row.now c.span_of-from.result.from c.span_of-from.result.to c.if-from-to.true in
+    let taken = taken_by g.K.Key.words c.args.stride c.args.row.now c.args.prefix.len (g.K.Key.num c.args.prefix.bits) _ _ [] c.span_of-from.ensures none in
     record { says = part_says _ _ _ _ _ _ taken; taken = taken }
 
 pub lend-requires : goal.lend-requires
@@ -28,11 +22,5 @@ lend-requires g c =
 
 pub returns : goal.returns
 returns g c =
-    let taken : PartTaken g.K.Key.words c.args.stride c.args.row.now c.args.prefix.len (g.K.Key.num c.args.prefix.bits) c.lend.result.now =
-    record {
-      from = c.span_of-from.result.from;
-      to = c.span_of-from.result.to;
-      span = c.span_of-from.ensures;
-      lent = c.lend.ensures;
-    } in
+    let taken = taken_by g.K.Key.words c.args.stride c.args.row.now c.args.prefix.len (g.K.Key.num c.args.prefix.bits) _ _ c.lend.result.now c.span_of-from.ensures c.lend.ensures in
     record { says = part_says _ _ _ _ _ _ taken; taken = taken }
