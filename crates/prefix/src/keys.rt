@@ -2,9 +2,10 @@
 ghost use Rattle.std.specs.Prelude.{◌≡◌, ℕ, ◌+◌, ◌-◌, ◌*◌, ◌/◌, ◌%◌, ◌^◌, ◌<◌, ◌≤◌, length, ◌==◌, nat_lt, slice_index};
 ghost use Rattle.prefix.specs.Words.{loaded, width};
 ghost use Rattle.prefix.specs.Routes.{first};
+ghost use Rattle.std.specs.Ordering.{nat_cmp};
 ghost use Rattle.std.proofs.Common.{rules};
 
-pub trait Key: Copy + Drop {
+pub trait Key: Copy + Drop + Ord {
     // The number that the key is.
     ghost num: { Self → ℕ };
 
@@ -25,12 +26,6 @@ pub trait Key: Copy + Drop {
         ensures value { loaded words row.new at ≡ num self }
         ensures before { (k : ℕ) → k < at → slice_index row.new k ≡ slice_index row.old k }
         ensures behind { (k : ℕ) → at + words ≤ k → slice_index row.new k ≡ slice_index row.old k };
-
-    fn is_below(self, other: Self) -> bool
-        ensures { result ≡ nat_lt (num self) (num other) };
-
-    fn is_same(self, other: Self) -> bool
-        ensures { result ≡ (num self == num other) };
 
     fn is_zero(self) -> bool
         ensures { result ≡ (num self == 0) };
@@ -65,6 +60,11 @@ pub trait Key: Copy + Drop {
     fn half(self) -> Self
         ensures { num result ≡ num self / 2 };
 
+    // Keys are equal where their numbers are, and ordered as these.
+    ghost equal: { (a b : Self) → Self.eq a b ≡ (num a == num b) };
+
+    ghost ordered: { (a b : Self) → Self.cmp a b ≡ nat_cmp (num a) (num b) };
+
     ghost some: { 0 < words };
 
     ghost few: { words ≤ 4 };
@@ -74,6 +74,10 @@ impl Key for u32 {
     ghost num = { λ x. x };
 
     ghost words = { 1 };
+
+    ghost equal = { λ a b. Prim.search rules };
+
+    ghost ordered = { λ a b. Prim.search rules };
 
     ghost some = { Prim.search rules };
 
@@ -89,14 +93,6 @@ impl Key for u32 {
 
     fn store(self, row: &mut [u32], at: usize) {
         row[at] = self;
-    }
-
-    fn is_below(self, other: u32) -> bool {
-        self < other
-    }
-
-    fn is_same(self, other: u32) -> bool {
-        self == other
     }
 
     fn is_zero(self) -> bool {

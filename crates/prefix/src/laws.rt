@@ -2,57 +2,41 @@
 ghost use Rattle.prefix.specs.Laws.{Longest, AnyOrder, StillGood, OnlyThere, Undone, EitherOrder, ByMap, Worked};
 
 // Any list answers by the longest of its routes that match, or 0 where none does.
-pub fn longest_holds() -> u8
+pub fn longest_holds()
     ensures { Longest }
-{
-    0
-}
+{}
 
 // The order of a good list does not matter.
-pub fn any_order_holds() -> u8
+pub fn any_order_holds()
     ensures { AnyOrder }
-{
-    0
-}
+{}
 
 // Put and away leave a good list good.
-pub fn still_good_holds() -> u8
+pub fn still_good_holds()
     ensures { StillGood }
-{
-    0
-}
+{}
 
 // Put and away change no answer to a key that the prefix does not match.
-pub fn only_there_holds() -> u8
+pub fn only_there_holds()
     ensures { OnlyThere }
-{
-    0
-}
+{}
 
 // A prefix put back as it was held leaves the answers as they were.
-pub fn undone_holds() -> u8
+pub fn undone_holds()
     ensures { Undone }
-{
-    0
-}
+{}
 
 // Two prefixes can be put in either order.
-pub fn either_order_holds() -> u8
+pub fn either_order_holds()
     ensures { EitherOrder }
-{
-    0
-}
+{}
 
 // A good list answers as its map does, from long prefixes to short.
-pub fn by_map_holds() -> u8
+pub fn by_map_holds()
     ensures { ByMap }
-{
-    0
-}
+{}
 
 // Four routes of 32 bits and three keys, worked out.
-pub fn worked_holds() -> u8
+pub fn worked_holds()
     ensures { Worked }
-{
-    0
-}
+{}

@@ -6,7 +6,7 @@ ghost use Rattle.prefix.specs.Routes.{route_of, first, matches, good_prefix, sam
 use crate::keys::Key;
 
 // The first `len` bits of `bits`.
-#[derive(Clone, Copy)]
+#[derive(Clone, Copy, PartialEq, Eq, PartialOrd, Ord)]
 pub struct Prefix<K> {
     pub bits: K,
     pub len: u32,
@@ -40,14 +40,14 @@ impl<K: Key> Prefix<K> {
     pub fn is_same(self, other: Prefix<K>) -> bool
         ensures { (hop hop' : ℕ) → result ≡ same_prefix (route_of (K.Key.num self.bits) self.len hop) (route_of (K.Key.num other.bits) other.len hop') }
     {
-        self.len == other.len && self.bits.is_same(other.bits)
+        self == other
     }
 
     // The order of a route list: by bits, and by length where these are the same.
     pub fn is_before(self, other: Prefix<K>) -> bool
         ensures { (hop hop' : ℕ) → result ≡ before (route_of (K.Key.num self.bits) self.len hop) (route_of (K.Key.num other.bits) other.len hop') }
     {
-        self.bits.is_below(other.bits) || self.bits.is_same(other.bits) && self.len < other.len
+        self < other
     }
 }
 
