@@ -1,9 +1,11 @@
 -- What the order of a list says of its searches: a prefix stands in one place, or in none. Assumes nothing.
-use Rattle.std.proofs.Common.{◌≡◌, ℕ, zero, suc, ◌-◌, ◌<◌, ◌≤◌, true, false, List, [], ◌∷◌, length, get_or, refl, ⊎_elim, arith}
+use Rattle.std.proofs.Common.{◌≡◌, ℕ, zero, suc, ◌-◌, ◌<◌, ◌≤◌, true, false, true≢false, List, [], ◌∷◌, length, get_or, Some, None, Ok, Err, Result, is_some, refl, ap, ⊎_elim, arith}
+use Rattle.std.specs.Option.{unwrap_or}
+use Rattle.std.specs.Result.{result_ok}
 use Rattle.std.proofs.lemmas.Bool.{cases_lt, cases_order}
 use Rattle.std.proofs.lemmas.Bool.Decides.{nat_tests}
 use Rattle.prefix.specs.Routes.{Route, route_of, before, no_route, same_prefix, held, InOrder}
-use Rattle.routes.specs.Searches.{Boundary, Found, Missing}
+use Rattle.routes.specs.Searches.{Boundary, Found, Missing, SearchSays}
 
 -- what comes before another has not its prefix
 pub before_apart : (r s : Route) → before r s ≡ true → same_prefix r s ≡ false
@@ -71,3 +73,13 @@ found rs bits len k h same =
 pub missing : (rs : List Route) (bits len k : ℕ) → Boundary rs bits len k → (k < length rs → same_prefix (get_or rs k no_route) (route_of bits len 0) ≡ false) → Missing rs bits len k
 missing rs bits len k place other =
     record { place = place; other = other; none = λ order. held_none rs bits len (misses rs bits len k order place other) }
+
+-- a search whose place is taken for granted found the prefix there
+pub found_there : (rs : List Route) (bits len : ℕ) (r : Result ℕ ℕ) → SearchSays rs bits len r → (k : ℕ) → Some k ≡ result_ok r → Found rs bits len k
+found_there rs bits len (Ok j) s k e = let same : k ≡ j = ap (λ p. unwrap_or p 0) e in rw same s
+found_there rs bits len (Err j) s k e = absurd (true≢false (ap is_some e))
+
+-- and one whose place is not there found that the prefix is missing
+pub missing_there : (rs : List Route) (bits len : ℕ) (r : Result ℕ ℕ) → SearchSays rs bits len r → result_ok r ≡ None → (k : ℕ) × Missing rs bits len k
+missing_there rs bits len (Ok j) s e = absurd (true≢false (ap is_some e))
+missing_there rs bits len (Err j) s e = (j, s)

@@ -1,5 +1,5 @@
 -- What the searches of a route list find, in any list, in order or not. Assumes nothing: these are definitions.
-use Rattle.std.specs.Prelude.{◌≡◌, ℕ, suc, ◌-◌, ◌<◌, ◌≤◌, true, false, List, length, get_or, Some, None, Ok, Err, Option, Result, slice_index_or}
+use Rattle.std.specs.Prelude.{◌≡◌, ℕ, suc, ◌-◌, ◌<◌, ◌≤◌, Bool, true, false, List, length, get_or, Some, None, Ok, Err, Option, Result, slice_index_or}
 use Rattle.prefix.specs.Routes.{Route, route_of, before, no_route, same_prefix, held, InOrder}
 
 -- a place between what comes before a prefix and what does not. In a list in order there is just one such place
@@ -7,6 +7,13 @@ pub record Boundary (rs : List Route) (bits len k : ℕ) : Type 0 where
   pub within : k ≤ length rs
   pub below : 0 < k → before (slice_index_or rs (k - 1) no_route) (route_of bits len 0) ≡ true
   pub from : k < length rs → before (slice_index_or rs k no_route) (route_of bits len 0) ≡ false
+
+-- a place, from one on, between routes of which a test tells true and such of which it tells false: seen of the nearest on each side
+pub record Parts (rs : List Route) (from k : ℕ) (Tells : Route → Bool → Type 0) : Type 0 where
+  pub low : from ≤ k
+  pub high : from ≤ length rs → k ≤ length rs
+  pub left : from < k → Tells (slice_index_or rs (k - 1) no_route) true
+  pub right : k < length rs → Tells (slice_index_or rs k no_route) false
 
 -- route k has the prefix; in a list in order it is what the list holds of it
 pub record Found (rs : List Route) (bits len k : ℕ) : Type 0 where

@@ -6,8 +6,7 @@ ghost use Rattle.routes.specs.Rows.{slot, count_in, room_in, routes};
 ghost use Rattle.routes.specs.Gaps.{Opened, Closed, Written};
 ghost use Rattle.routes.specs.Changes.{Added, Replaced, Removed, InsertSays, InsertKeeps, RemoveSays, RemoveKeeps};
 
-use crate::rows::{Extent, hop_at, slot_at};
-use crate::searches::find;
+use crate::rows::{Extent, List, slot_at};
 use prefix::{Key, Prefix};
 
 // The list has no room for one more route.
@@ -24,10 +23,11 @@ pub fn insert<K: Key>(
     ensures says { InsertSays K.Key.words stride row.old row.new (route_of (K.Key.num prefix.bits) prefix.len hop) result }
     ensures keeps { InsertKeeps (routes K.Key.words stride row.old) (routes K.Key.words stride row.new) (route_of (K.Key.num prefix.bits) prefix.len hop) result }
 {
-    match find(row, stride, prefix) {
+    let list = List::over(row, stride);
+    let Extent { count, room } = list.extent();
+    match list.find(prefix) {
         Ok(k) => Ok(Some(replace_at::<K>(row, stride, k, hop))),
         Err(k) => {
-            let Extent { count, room } = Extent::of::<K>(row, stride);
             if count == room {
                 return Err(Full);
             }
@@ -42,10 +42,8 @@ pub fn remove<K: Key>(row: &mut [u32], stride: usize, prefix: Prefix<K>) -> Opti
     ensures says { RemoveSays K.Key.words stride row.old row.new (K.Key.num prefix.bits) prefix.len result }
     ensures keeps { RemoveKeeps (routes K.Key.words stride row.old) (routes K.Key.words stride row.new) (K.Key.num prefix.bits) prefix.len result }
 {
-    match find(row, stride, prefix) {
-        Ok(k) => Some(take_at::<K>(row, stride, k)),
-        Err(_) => None,
-    }
+    let k = List::over(row, stride).find(prefix).ok()?;
+    Some(take_at::<K>(row, stride, k))
 }
 
 // Gives route k another hop, and answers the one that it had.
@@ -80,9 +78,9 @@ fn take_at<K: Key>(row: &mut [u32], stride: usize, k: usize) -> u32
     ensures was { result ≡ slice_index row.old (slot stride k + (K.Key.words + 1)) }
     ensures after { Removed K.Key.words stride row.old row.new k }
 {
-    let was = hop_at::<K>(row, stride, k);
     let count = row[0];
     let at = slot_at::<K>(row, stride, k);
+    let was = row[at + (K::words() + 1)];
     let end = slot_at::<K>(row, stride, count as usize - 1) + stride;
     close_gap(&mut row[at..end], stride);
     row[0] = count - 1;

@@ -6,11 +6,11 @@
 #![tactic(auto)]
 
 mod edits;
+mod iter;
 mod rows;
 mod scans;
 mod searches;
 
 pub use edits::{Full, insert, remove};
-pub use rows::{Extent, route};
-pub use scans::scan;
-pub use searches::{find, get, lower_bound};
+pub use iter::Routes;
+pub use rows::{Extent, List};

@@ -5,7 +5,7 @@ ghost use Rattle.prefix.specs.Routes.{route_of, matches, answer};
 ghost use Rattle.routes.specs.Rows.{routes, told};
 ghost use Rattle.routes.specs.Bests.{long_of, hop_of};
 
-use crate::rows::{Extent, hop_at, prefix_at};
+use crate::rows::List;
 use prefix::{Key, Prefix};
 
 // The longest match so far.
@@ -15,23 +15,16 @@ pub(crate) struct Match {
     hop: u32,
 }
 
-// The hop of the longest route that matches the key, or none where no route does.
-pub fn scan<K: Key>(row: &[u32], stride: usize, key: K) -> Option<u32>
-    ensures { told result ≡ answer (width K.Key.words) (routes K.Key.words stride row.now) (K.Key.num key) }
-{
-    let count = Extent::of::<K>(row, stride).count;
-    let mut best = None;
-    for k in 0..count {
-        best = longer(
-            best,
-            prefix_at(row, stride, k),
-            hop_at::<K>(row, stride, k),
-            key,
-        );
-    }
-    match best {
-        Some(found) => Some(found.hop),
-        None => None,
+impl<'a, K: Key> List<'a, K> {
+    // The hop of the longest route that matches the key, or none where no route does.
+    pub fn scan(&self, key: K) -> Option<u32>
+        ensures { told result ≡ answer (width K.Key.words) (routes K.Key.words self.now.stride self.now.row.now) (K.Key.num key) }
+    {
+        let mut best = None;
+        for (prefix, hop) in self.iter() {
+            best = longer(best, prefix, hop, key);
+        }
+        Some(best?.hop)
     }
 }
 

@@ -9,17 +9,20 @@ use Rattle.routes.proofs.Keeps.{put_replaced, put_added}
 use Rattle.routes.proofs.edits.insert.Goals as goal
 
 pub replace_at-requires : goal.replace_at-requires
-replace_at-requires g c = let n = length_routes g.K.Key.words c.args.stride c.args.row.now in omega (arith, c.in-Ok.ensures.within)
+replace_at-requires g c = let n = length_routes g.K.Key.words c.args.stride c.args.row.now in let f = rw (c.over-list.ensures.row, c.over-list.ensures.stride) at c.in-Ok.ensures in omega (arith, f.within)
 
 pub add_at-requires : goal.add_at-requires
 add_at-requires g c =
     let n = length_routes g.K.Key.words c.args.stride c.args.row.now in
     let r = count_room g.K.Key.words c.args.stride c.args.row.now in
-    record { place = omega (arith, c.in-Err.ensures.place.within); room = omega arith }
+    let m = rw (c.over-list.ensures.row, c.over-list.ensures.stride) at c.in-Err.ensures in
+    let e = rw (c.over-list.ensures.row, c.over-list.ensures.stride) at c.extent-count.ensures.count in
+    let f = rw (c.over-list.ensures.row, c.over-list.ensures.stride) at c.extent-count.ensures.room in
+    record { place = omega (arith, m.place.within); room = omega arith }
 
 pub returns-in-Ok : goal.returns-in-Ok
 returns-in-Ok g c =
-    let f = c.in-Ok.ensures in
+    let f = rw (c.over-list.ensures.row, c.over-list.ensures.stride) at c.in-Ok.ensures in
     let n = length_routes g.K.Key.words c.args.stride c.args.row.now in
     let less : c.in-Ok.k < count_in g.K.Key.words c.args.stride c.args.row.now = omega (arith, f.within) in
     let r = replaced g.K.Key.words c.args.stride c.args.row.now c.replace_at.new.row c.in-Ok.k (route_of (g.K.Key.num c.args.prefix.bits) c.args.prefix.len c.args.hop) less f.is_bits f.is_len c.replace_at.ensures.after in
@@ -31,9 +34,12 @@ returns-in-Ok g c =
 
 pub returns-then-count-room : goal.returns-then-count-room
 returns-then-count-room g c =
-    record { says = (c.in-Err.k, c.in-Err.ensures, sym c.of-count.ensures.count ∙ c.if-count-room.true ∙ c.of-count.ensures.room, refl); keeps = c.in-Err.ensures.none }
+    let m = rw (c.over-list.ensures.row, c.over-list.ensures.stride) at c.in-Err.ensures in
+    let e = rw (c.over-list.ensures.row, c.over-list.ensures.stride) at c.extent-count.ensures.count in
+    let f = rw (c.over-list.ensures.row, c.over-list.ensures.stride) at c.extent-count.ensures.room in
+    record { says = (c.in-Err.k, m, sym e ∙ c.if-count-room.true ∙ f, refl); keeps = m.none }
 
 pub returns-else-count-room : goal.returns-else-count-room
 returns-else-count-room g c =
-    let m = c.in-Err.ensures in
+    let m = rw (c.over-list.ensures.row, c.over-list.ensures.stride) at c.in-Err.ensures in
     record { says = (c.in-Err.k, m, c.add_at.ensures); keeps = λ order. put_added _ _ c.in-Err.k m order _ c.add_at.ensures.list }

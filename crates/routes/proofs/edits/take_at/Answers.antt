@@ -37,6 +37,6 @@ returns g c =
     omega (arith, mul_add_one c.args.stride (get_or c.args.row.now 0 0 - 1), ap (λ (m : ℕ). c.args.stride * m) last) in
     let o = lent_closed c.args.stride c.slot_at-at.result (c.slot_at.result + c.args.stride) c.args.row.now _ c.close_gap.new.part (omega arith) c.slot_at.ensures.within refl c.close_gap.auto.part c.close_gap.ensures in
     record {
-      was = c.hop_at-was.ensures;
+      was = rw (c.slot_at-at.ensures.value, c.words.ensures) refl;
       after = taken_by g.K.Key.words c.args.stride c.args.row.now _ c.args.k _ _ c.requires c.slot_at-at.ensures.value end (same_len_mid _ _ _ _ c.close_gap.auto.part) o;
     }
