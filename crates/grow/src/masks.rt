@@ -1,5 +1,5 @@
 // The cells that a prefix covers in the last node of its way, as sixteen bits, and the words of these cells.
-ghost use Rattle.std.specs.Prelude.{◌≡◌, ℕ, ◌+◌, ◌-◌, ◌*◌, ◌/◌, ◌%◌, ◌^◌, ◌<◌, ◌≤◌, true, false, length, set, if◌then◌else◌, ◌==◌, count_ones, nat_le, slice_set};
+ghost use Rattle.std.specs.Prelude.{◌≡◌, ℕ, ◌+◌, ◌-◌, ◌*◌, ◌/◌, ◌%◌, ◌^◌, ◌<◌, ◌≤◌, true, false, length, set, if◌then◌else◌, is_some, ◌==◌, count_ones, nat_le, slice_set};
 ghost use Rattle.prefix.specs.Words.{width};
 ghost use Rattle.prefix.specs.Routes.{first};
 ghost use Rattle.grow.specs.Ways.{depth_of, Ahead};
@@ -45,20 +45,20 @@ fn covered(nibble: u32, len: u32) -> u16
     (((1u32 << many) - 1) << from) as u16
 }
 
-// Writes the words of the cells whose bits are set, and nothing else. False where the row has no such node.
-pub fn write_words(nodes: &mut [u32], node: u32, mask: u16, words: &[u32; 16]) -> bool
-    ensures fits { result ≡ nat_le (32 * (node + 1)) (length nodes.old) }
-    ensures written { result ≡ true → Written node mask words.now nodes.old nodes.new }
-    ensures same { result ≡ false → nodes.new ≡ nodes.old }
+// Writes the words of the cells whose bits are set, and nothing else. None where the row has no such node.
+pub fn write_words(nodes: &mut [u32], node: u32, mask: u16, words: &[u32; 16]) -> Option<()>
+    ensures fits { is_some result ≡ nat_le (32 * (node + 1)) (length nodes.old) }
+    ensures written { is_some result ≡ true → Written node mask words.now nodes.old nodes.new }
+    ensures same { is_some result ≡ false → nodes.new ≡ nodes.old }
 {
     let from = 32 * (node as usize);
     if nodes.len() < from + 32 {
-        return false;
+        return None;
     }
-    for k in 0..16 {
-        write_word(nodes, from + 2 * k, has(mask, k as u32), words[k]);
+    for (k, word) in words.iter().enumerate() {
+        write_word(nodes, from + 2 * k, has(mask, k as u32), *word);
     }
-    true
+    Some(())
 }
 
 // Whether bit k is set.

@@ -8,9 +8,7 @@ pub(crate) fn clear_node(nodes: &mut [u32], node: u32)
     ensures before { (x : ℕ) → x < 32 * node → slice_index nodes.new x ≡ slice_index nodes.old x }
 {
     let from = 32 * (node as usize);
-    for y in 0..32 {
-        nodes[from + y] = 0;
-    }
+    nodes[from..from + 32].fill(0);
 }
 
 // Notes which cell names the node, behind it and all nodes before it. Where there is no room for that, whoever wants it has to search: a hint is never trusted.

@@ -1,5 +1,5 @@
 -- The list as a map from prefixes to hops: for whoever compares another table with the list, one prefix at a time. Assumes nothing: these are definitions.
-use Rattle.std.specs.Prelude.{ℕ, zero, suc, ◌-◌, ◌*◌, ◌^◌, cond, ◌&&◌, List, ◌==◌}
+use Rattle.std.specs.Prelude.{ℕ, zero, suc, ◌-◌, ◌*◌, ◌^◌, cond, ◌&&◌, List, Some, None, Option, ◌==◌}
 use Rattle.prefix.specs.Routes.{Route, first, held}
 
 -- a map from prefixes, by length and by their first bits as a number, to 0 or one more than a hop
@@ -14,6 +14,11 @@ hops w rs l q = held l (q * 2 ^ (w - l)) rs
 abbrev pub or_else : ℕ → ℕ → ℕ
 or_else zero b = b
 or_else (suc a) b = suc a
+
+-- a hop or none as one number: 0, or one more than the hop
+abbrev pub told : Option ℕ → ℕ
+told None = 0
+told (Some hop) = suc hop
 
 -- what a map answers to a key by its prefixes of at most l bits, the longest first
 unfoldable pub longest : Hops → (w x l : ℕ) → ℕ

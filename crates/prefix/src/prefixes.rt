@@ -1,5 +1,5 @@
 // A prefix, whether it is one, and what it matches. A key is gone through by its nibbles, from the highest, so that keys of any length go the same way.
-ghost use Rattle.std.specs.Prelude.{◌≡◌, ℕ, ◌+◌, ◌-◌, ◌*◌, ◌/◌, ◌%◌, ◌^◌, ◌<◌, ◌≤◌, ◌&&◌, ◌==◌};
+ghost use Rattle.std.specs.Prelude.{◌≡◌, ℕ, ◌+◌, ◌-◌, ◌*◌, ◌/◌, ◌%◌, ◌^◌, ◌<◌, ◌≤◌, MatchOption, ◌&&◌, ◌==◌};
 ghost use Rattle.prefix.specs.Words.{width};
 ghost use Rattle.prefix.specs.Routes.{route_of, first, matches, good_prefix, same_prefix, before, beneath};
 
@@ -13,6 +13,19 @@ pub struct Prefix<K> {
 }
 
 impl<K: Key> Prefix<K> {
+    // The prefix of so many bits, or none where a key has not so many.
+    pub fn new(bits: K, len: u64) -> Option<Prefix<K>>
+        ensures { MatchOption result (width K.Key.words < len) (λ p. (p.bits ≡ bits) × (p.len ≡ len) × (len ≤ width K.Key.words)) }
+    {
+        if len > width::<K>() as u64 {
+            return None;
+        }
+        Some(Prefix {
+            bits,
+            len: len as u32,
+        })
+    }
+
     // Whether the length fits the key, and all bits behind it are 0.
     pub fn is_good(self) -> bool
         ensures { result ≡ good_prefix (width K.Key.words) self.len (K.Key.num self.bits) }

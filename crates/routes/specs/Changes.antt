@@ -2,7 +2,8 @@
 use Rattle.std.specs.Prelude.{◌≡◌, ℕ, suc, ◌+◌, ◌-◌, List, Some, None, Ok, Err, Option, Result, slice_index, slice_set}
 use Rattle.std.specs.List.{insert, remove}
 use Rattle.prefix.specs.Routes.{Route, InOrder, SameMembers, put, away, held}
-use Rattle.routes.specs.Rows.{slot, count_in, room_in, routes, told}
+use Rattle.routes.specs.Rows.{slot, count_in, room_in, routes}
+use Rattle.prefix.specs.Map.{told}
 use Rattle.routes.specs.Searches.{Found, Missing}
 use Rattle.routes.specs.Gaps.{Opened, Closed}
 use Rattle.routes.specs.declared.edits.Full.{Full}

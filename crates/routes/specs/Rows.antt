@@ -1,5 +1,5 @@
 -- How a row of numbers holds a route list: for whoever reads the row. The row begins with how many routes there are and for how many there is room; then each route takes `stride` numbers, of which the first are the words of its bits, its length and its hop, and what is behind these is carried along. Assumes nothing: these are definitions.
-use Rattle.std.specs.Prelude.{ℕ, suc, ◌+◌, ◌*◌, Bool, cond, ◌&&◌, List, map, length, Some, None, Option, nat_le, slice_index}
+use Rattle.std.specs.Prelude.{ℕ, suc, ◌+◌, ◌*◌, Bool, cond, ◌&&◌, List, map, length, nat_le, slice_index}
 use Rattle.std.specs.List.{range_with_len}
 use Rattle.prefix.specs.Words.{loaded}
 use Rattle.prefix.specs.Routes.{Route, route_of}
@@ -29,8 +29,3 @@ room_in words stride row = cond (listing words stride row) (slice_index row 1) 0
 -- the routes of a row, in their order
 unfoldable pub routes : (words stride : ℕ) → List ℕ → List Route
 routes words stride row = map (route_at words stride row) (range_with_len 0 (count_in words stride row))
-
--- a hop or none, as `answer` and `held` say it: 0, or one more than the hop
-abbrev pub told : Option ℕ → ℕ
-told None = 0
-told (Some hop) = suc hop

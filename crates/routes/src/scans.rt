@@ -2,7 +2,8 @@
 ghost use Rattle.std.specs.Prelude.{◌≡◌, ℕ, suc, ◌&&◌, if◌then◌else◌, nat_lt};
 ghost use Rattle.prefix.specs.Words.{width};
 ghost use Rattle.prefix.specs.Routes.{route_of, matches, answer};
-ghost use Rattle.routes.specs.Rows.{routes, told};
+ghost use Rattle.routes.specs.Rows.{routes};
+ghost use Rattle.prefix.specs.Map.{told};
 ghost use Rattle.routes.specs.Bests.{long_of, hop_of};
 
 use crate::rows::List;

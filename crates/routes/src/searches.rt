@@ -1,7 +1,8 @@
 // Where a prefix stands in a list, by halving.
 ghost use Rattle.std.specs.Prelude.{◌≡◌};
 ghost use Rattle.prefix.specs.Routes.{InOrder, held, route_of, before};
-ghost use Rattle.routes.specs.Rows.{routes, told};
+ghost use Rattle.routes.specs.Rows.{routes};
+ghost use Rattle.prefix.specs.Map.{told};
 ghost use Rattle.routes.specs.Searches.{Boundary, Parts, SearchSays, GetSays};
 
 use crate::rows::List;

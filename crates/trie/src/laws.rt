@@ -2,50 +2,36 @@
 ghost use Rattle.trie.specs.Theorems.{NodeBound, RoomEnough, Empty, NamedOnce, SameMap, SameRow, Worked};
 
 // A route needs at most one node less than a key has nibbles.
-pub fn node_bound_holds() -> u8
+pub fn node_bound_holds()
     ensures { NodeBound }
-{
-    0
-}
+{}
 
 // A row made for so many routes has nodes enough.
-pub fn room_enough_holds() -> u8
+pub fn room_enough_holds()
     ensures { RoomEnough }
-{
-    0
-}
+{}
 
 // One node of zeros is the trie of no routes.
-pub fn empty_holds() -> u8
+pub fn empty_holds()
     ensures { Empty }
-{
-    0
-}
+{}
 
 // Every node but the root is named by just one cell.
-pub fn named_once_holds() -> u8
+pub fn named_once_holds()
     ensures { NamedOnce }
-{
-    0
-}
+{}
 
 // A trie is one of any map with the same values.
-pub fn same_map_holds() -> u8
+pub fn same_map_holds()
     ensures { SameMap }
-{
-    0
-}
+{}
 
 // What stands behind a trie's nodes may be anything.
-pub fn same_row_holds() -> u8
+pub fn same_row_holds()
     ensures { SameRow }
-{
-    0
-}
+{}
 
 // The two nodes of one route, worked out.
-pub fn worked_holds() -> u8
+pub fn worked_holds()
     ensures { Worked }
-{
-    0
-}
+{}

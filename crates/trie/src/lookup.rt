@@ -2,11 +2,11 @@
 ghost use Rattle.std.specs.Prelude.{◌≡◌, ℕ, ◌+◌, ◌-◌, ◌*◌, ◌/◌, ◌^◌, ◌<◌, true, List};
 ghost use Rattle.prefix.specs.Words.{width};
 ghost use Rattle.prefix.specs.Routes.{Route, good, answer};
-ghost use Rattle.prefix.specs.Map.{Hops, hops, or_else, longest};
+ghost use Rattle.prefix.specs.Map.{Hops, hops, told, or_else, longest};
 ghost use Rattle.trie.specs.Nodes.{nibbles, looked};
 ghost use Rattle.trie.specs.Shape.{TrieOf};
 
-use prefix::Key;
+use prefix::{Key, hop_in};
 
 // A row of nodes, lent to be read.
 #[derive(Clone, Copy)]
@@ -21,13 +21,14 @@ impl<'a> Trie<'a> {
         Trie { nodes }
     }
 
-    // 0, or one more than the hop. The prefix of no bits is not in the trie: what it answers is for the caller to add.
-    pub fn look<K: Key>(&self, key: K) -> u32
-        ensures value { result ≡ looked self.now.nodes.now 0 (nibbles (width K.Key.words) (8 * K.Key.words) (K.Key.num key)) 0 }
-        ensures right { (m : Hops) (count : ℕ) → TrieOf (width K.Key.words) m self.now.nodes.now count → or_else result (m 0 0) ≡ longest m (width K.Key.words) (K.Key.num key) (width K.Key.words) }
-        ensures agrees { (rs : List Route) (count : ℕ) → good (width K.Key.words) rs ≡ true → TrieOf (width K.Key.words) (hops (width K.Key.words) rs) self.now.nodes.now count → or_else result (hops (width K.Key.words) rs 0 0) ≡ answer (width K.Key.words) rs (K.Key.num key) }
+    // The hop that the cells on the key's way tell last. The prefix of no bits is not in the trie: what it answers is for the caller to add.
+    pub fn look<K: Key>(&self, key: K) -> Option<u32>
+        ensures value { told result ≡ looked self.now.nodes.now 0 (nibbles (width K.Key.words) (8 * K.Key.words) (K.Key.num key)) 0 }
+        ensures right { (m : Hops) (count : ℕ) → TrieOf (width K.Key.words) m self.now.nodes.now count → or_else (told result) (m 0 0) ≡ longest m (width K.Key.words) (K.Key.num key) (width K.Key.words) }
+        ensures agrees { (rs : List Route) (count : ℕ) → good (width K.Key.words) rs ≡ true → TrieOf (width K.Key.words) (hops (width K.Key.words) rs) self.now.nodes.now count → or_else (told result) (hops (width K.Key.words) rs 0 0) ≡ answer (width K.Key.words) rs (K.Key.num key) }
+        ensures low { told result < 2 ^ 32 }
     {
-        descend(self, 0, key, 8 * K::words() as u32, 0)
+        hop_in(descend(self, 0, key, 8 * K::words() as u32, 0))
     }
 }
 
