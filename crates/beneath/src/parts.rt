@@ -1,12 +1,12 @@
 // The part of a row in which the routes beneath a prefix stand, for keys of any words. Both ends are found by halving.
-ghost use Rattle.std.specs.Prelude.{◌≡◌, ◌+◌, ◌-◌, ◌*◌, ◌^◌, ◌≤◌, ◌&&◌, length, take, drop, nat_lt, slice_index_or};
+ghost use Rattle.std.specs.Prelude.{◌≡◌, ◌+◌, ◌-◌, ◌*◌, ◌^◌, ◌≤◌, length, take, drop};
 ghost use Rattle.prefix.specs.Words.{width};
-ghost use Rattle.prefix.specs.Routes.{first, beneath, no_route};
-ghost use Rattle.routes.specs.Rows.{slot, routes};
-ghost use Rattle.beneath.specs.Parts.{SpanSays, PartTaken, PartSays, End};
+ghost use Rattle.prefix.specs.Routes.{route_of, first, beneath};
+ghost use Rattle.routes.specs.Rows.{slot};
+ghost use Rattle.beneath.specs.Parts.{SpanSays, PartTaken, PartSays};
 
 use prefix::{Key, Prefix};
-use routes::Extent;
+use routes::List;
 
 // Routes of a row that stand together: from one place to before another.
 #[derive(Clone, Copy)]
@@ -34,8 +34,14 @@ pub fn span_of<K: Key>(row: &[u32], stride: usize, prefix: Prefix<K>) -> Span
     if prefix.len as usize > 32 * K::words() {
         return Span { from: 0, to: 0 };
     }
-    let from = routes::lower_bound(row, stride, start_of(prefix));
-    let to = end_from(row, stride, prefix, from);
+    let list = List::over(row, stride);
+    let from = list.lower_bound(start_of(prefix));
+    let to = list.partition_point(
+        from,
+        |held: Prefix<K>|
+            ensures { result ≡ beneath (width K.Key.words) prefix.len (K.Key.num prefix.bits) (route_of (K.Key.num held.bits) held.len 0) }
+        { prefix.covers(held) },
+    );
     Span { from, to }
 }
 
@@ -59,33 +65,5 @@ fn start_of<K: Key>(prefix: Prefix<K>) -> Prefix<K>
     Prefix {
         bits,
         len: prefix.len,
-    }
-}
-
-// The first place, from one on, whose route does not lie beneath the prefix, by halving.
-fn end_from<K: Key>(row: &[u32], stride: usize, prefix: Prefix<K>, from: usize) -> usize
-    requires { from ≤ length (routes K.Key.words stride row.now) }
-    ensures { End (width K.Key.words) (routes K.Key.words stride row.now) prefix.len (K.Key.num prefix.bits) from result }
-{
-    let mut low = from;
-    let mut high = Extent::of::<K>(row, stride).count;
-    while low < high {
-        let middle = low + (high - low) / 2;
-        if is_beneath(row, stride, prefix, middle) {
-            low = middle + 1;
-        } else {
-            high = middle;
-        }
-    }
-    low
-}
-
-// Whether there is a route k, and it lies beneath the prefix.
-fn is_beneath<K: Key>(row: &[u32], stride: usize, prefix: Prefix<K>, k: usize) -> bool
-    ensures { result ≡ (nat_lt k (length (routes K.Key.words stride row.now)) && beneath (width K.Key.words) prefix.len (K.Key.num prefix.bits) (slice_index_or (routes K.Key.words stride row.now) k no_route)) }
-{
-    match routes::route::<K>(row, stride, k) {
-        Some((held, _)) => prefix.covers(held),
-        None => false,
     }
 }

@@ -1,5 +1,5 @@
 // The routes beneath a prefix of 32 bits, from a table's row or from a view of it: three numbers each, bits, length and hop.
-ghost use Rattle.std.specs.Prelude.{◌≡◌, ◌<◌, ◌≤◌, MatchOption};
+ghost use Rattle.std.specs.Prelude.{◌≡◌};
 ghost use Rattle.beneath.specs.Parts.{SpanSays, PartTaken, PartSays};
 
 use crate::parts::{Span, part, span_of};
@@ -13,7 +13,7 @@ pub fn beneath<'a>(table: &'a [u32], bits: u32, long: u64) -> &'a [u32]
     ensures says { PartSays 1 3 table.now long bits result.now }
     ensures taken { PartTaken 1 3 table.now long bits result.now }
 {
-    match prefix_of(bits, long) {
+    match Prefix::new(bits, long) {
         Some(prefix) => part(table, STRIDE, prefix),
         None => &table[..0],
     }
@@ -23,7 +23,7 @@ pub fn beneath<'a>(table: &'a [u32], bits: u32, long: u64) -> &'a [u32]
 pub fn beneath_span(table: &[u32], bits: u32, long: u64) -> Span
     ensures { SpanSays 1 3 table.now long bits result.from result.to }
 {
-    match prefix_of(bits, long) {
+    match Prefix::new(bits, long) {
         Some(prefix) => span_of(table, STRIDE, prefix),
         None => Span { from: 0, to: 0 },
     }
@@ -49,17 +49,4 @@ impl<'a> View<'a> {
     {
         beneath(self.row, bits, long)
     }
-}
-
-// The prefix of so many bits, if there are so many.
-fn prefix_of(bits: u32, long: u64) -> Option<Prefix<u32>>
-    ensures { MatchOption result (32 < long) (λ p. (p.bits ≡ bits) × (p.len ≡ long) × (long ≤ 32)) }
-{
-    if long > 32 {
-        return None;
-    }
-    Some(Prefix {
-        bits,
-        len: long as u32,
-    })
 }

@@ -35,8 +35,8 @@ impl Extent {
 // The list that a row holds, to be read. What the row has is tested once, when it is lent.
 #[derive(Drop)]
 pub struct List<'a, K: Key> {
-    pub(crate) row: &'a [u32],
-    pub(crate) stride: usize,
+    pub row: &'a [u32],
+    pub stride: usize,
     extent: Extent,
     keys: PhantomData<K>,
     ghost counted: { extent.count ≡ count_in K.Key.words stride row.now },
