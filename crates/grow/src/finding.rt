@@ -1,5 +1,5 @@
 // The way to a prefix that the trie has: its last node is found, and nothing is made.
-ghost use Rattle.std.specs.Prelude.{◌≡◌, ℕ, ◌+◌, ◌-◌, ◌*◌, ◌^◌, ◌<◌, ◌≤◌, ◌≢◌, length, IfSome, MatchOption, slice_index};
+ghost use Rattle.std.specs.Prelude.{◌≡◌, ℕ, ◌+◌, ◌-◌, ◌*◌, ◌^◌, ◌<◌, ◌≤◌, ◌≢◌, length, is_some, true, IfSome, MatchOption, slice_index};
 ghost use Rattle.prefix.specs.Words.{width};
 ghost use Rattle.prefix.specs.Routes.{first};
 ghost use Rattle.prefix.specs.Map.{Hops};
@@ -13,6 +13,7 @@ use prefix::{Key, Prefix};
 pub fn way_end<K: Key>(nodes: &[u32], count: u32, prefix: Prefix<K>) -> Option<u32>
     ensures below { IfSome result (λ n. n < count) }
     ensures end { (m : Hops) → TrieOf (width K.Key.words) m nodes.now count → 0 < prefix.len → prefix.len ≤ width K.Key.words → m prefix.len (first (width K.Key.words) prefix.len (K.Key.num prefix.bits)) ≢ 0 → MatchOption result ⊥ (λ n. WayFound (width K.Key.words) m prefix.len (first (width K.Key.words) prefix.len (K.Key.num prefix.bits)) nodes.now count n) }
+    ensures fits { is_some result ≡ true → (0 < prefix.len) × (prefix.len ≤ width K.Key.words) }
 {
     if count == 0 || prefix.len == 0 || prefix.len as usize > 32 * K::words() {
         return None;

@@ -26,6 +26,7 @@ pub fn make_way<K: Key>(
 ) -> Option<Place>
     ensures way { (m : Hops) → TrieOf (width K.Key.words) m nodes.old count → 0 < prefix.len → prefix.len ≤ width K.Key.words → IfSome result (λ p. WayMade (width K.Key.words) m prefix.len (first (width K.Key.words) prefix.len (K.Key.num prefix.bits)) nodes.new p.count p.node) }
     ensures enough { (m : Hops) (rs : List Route) → TrieOf (width K.Key.words) m nodes.old count → 0 < prefix.len → prefix.len ≤ width K.Key.words → Apart m (hops (width K.Key.words) rs) prefix.len (first (width K.Key.words) prefix.len (K.Key.num prefix.bits)) → hops (width K.Key.words) rs prefix.len (first (width K.Key.words) prefix.len (K.Key.num prefix.bits)) ≢ 0 → 32 * ((8 * K.Key.words - 1) * length rs + 1) ≤ length nodes.old → (8 * K.Key.words - 1) * length rs + 1 < 2 ^ 32 → is_some result ≡ true }
+    ensures fits { is_some result ≡ true → (0 < prefix.len) × (prefix.len ≤ width K.Key.words) }
 {
     if prefix.len == 0 || prefix.len as usize > 32 * K::words() {
         return None;

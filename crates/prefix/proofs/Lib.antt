@@ -5,3 +5,4 @@ pub mod Edits
 pub mod Found
 pub mod Map
 pub mod Theorems
+pub mod Words

@@ -4,7 +4,8 @@ ghost use Rattle.prefix.specs.Map.{told};
 
 // The hop that a word tells.
 pub fn hop_in(word: u32) -> Option<u32>
-    ensures { told result ≡ word }
+    ensures value { told result ≡ word }
+    ensures low { told result < 2 ^ 32 }
 {
     word.checked_sub(1)
 }

@@ -1,5 +1,5 @@
 -- The last part of a row lent on: what the row holds afterwards, part by part. Assumes nothing.
-use Rattle.std.proofs.Common.{◌≡◌, ℕ, ◌+◌, ◌-◌, ◌<◌, ◌≤◌, List, length, get_or, take, drop, set, ap, ◌∙◌, arith}
+use Rattle.std.proofs.Common.{◌≡◌, ℕ, ◌+◌, ◌-◌, ◌<◌, ◌≤◌, List, length, get_or, take, drop, set, sym, ap, ◌∙◌, subst, arith}
 use borrow.Rule.Slice.PartMut.{put_mid, same_len_mid}
 use Rattle.std.proofs.lemmas.List.{places, ext_get_or, length-drop, length-take-le, length-set, get_or-drop, get_or-set_same, get_or-set_other, drop-set-lt, take_all}
 use Rattle.routes.proofs.Moves.{same_front}
@@ -79,3 +79,7 @@ part_is words at row is = lent_part (at + 2) row ∙ ap (λ (n : ℕ). drop (n +
 
 pub count_is : (words at : ℕ) (row : List ℕ) → at ≡ default_at words (room row) → get_or row (at + 1) 0 ≡ nodes words row
 count_is words at row is = ap (λ (n : ℕ). get_or row (n + 1) 0) is
+
+-- what holds of a row holds of one that is the same
+pub of_same : (P : List ℕ → Type 0) (new was : List ℕ) → new ≡ was → P was → P new
+of_same P new was e p = subst P (sym e) p

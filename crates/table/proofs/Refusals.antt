@@ -46,7 +46,7 @@ carried_more n (b ∷ bs) c rs mid new (m, y, more) x = (m, y, carried_more n bs
 
 -- what the entries leave is the effect of a change
 effect_put : (number : ℕ) (old new : List ℕ) (x : Route) (done : Done) → Right 1 old → PutEntrySays number old new x done → Right 1 new × (room new ≡ room old) × PutEffect number (room old) x (listed 1 old) (listed 1 new)
-effect_put (suc number) old new x done r (is, same) = rw same (r, refl, refl)
+effect_put (suc n) old new x done r (reason, is, told, same) = rw same (r, refl, refl)
 effect_put zero old new x done r says =
     ⊎_elim
     (λ (p : (done ≡ Ready) × PutDone 1 old new x). (p.1.right, p.1.space, inl p.1.members))

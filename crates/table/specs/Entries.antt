@@ -5,16 +5,23 @@ use Rattle.table.specs.Right.{Right, room, listed}
 use Rattle.table.specs.Changes.{PutDone, PutFull, AwayDone, AwayNone}
 use Rattle.table.specs.declared.entries.Done.{Done}
 use Rattle.table.specs.declared.entries.Done.TheVariants.{Ready, Full, Without, Refused}
+use Rattle.table.specs.declared.entries.Refusal.{Refusal}
+use Rattle.table.specs.declared.entries.Refusal.TheVariants.{Prefix, Hop}
 use Rattle.table.specs.declared.entries.Change.{Change}
 use Rattle.table.specs.declared.entries.Change.TheVariants.{Put, Away}
+
+-- the numbers of the refusals
+abbrev pub number : Refusal → ℕ
+number Prefix = 1
+number Hop = 2
 
 -- why a route cannot be put: 1, its bits and length are no prefix; 2, its hop is above 65,535; 0, it can
 abbrev pub refusal : (bits len hop : ℕ) → ℕ
 refusal bits len hop = cond (good_prefix 32 len bits) (cond (nat_le hop 65535) 0 2) 1
 
 -- a refusal changes nothing, in any row. Of a right table: ready, and the table is right again with the route put; or full, and nothing changed
-abbrev pub PutEntrySays : (number : ℕ) (old new : List ℕ) → Route → Done → Type 0
-PutEntrySays (suc number) old new r done = (done ≡ Refused (suc number)) × (new ≡ old)
+abbrev pub PutEntrySays : (refused : ℕ) (old new : List ℕ) → Route → Done → Type 0
+PutEntrySays (suc n) old new r done = (reason : Refusal) × (done ≡ Refused reason) × (number reason ≡ suc n) × (new ≡ old)
 PutEntrySays zero old new r done = Right 1 old → ((done ≡ Ready) × PutDone 1 old new r) ⊎ ((done ≡ Full) × PutFull 1 old new r)
 
 -- of a right table: ready, and the table is right again without the route; or there was none, and nothing changed
@@ -27,8 +34,8 @@ ApplySays old new (Put bits len hop) done = PutEntrySays (refusal bits len hop) 
 ApplySays old new (Away bits len) done = TakeAwaySays old new len bits done
 
 -- what one change makes of a list with room for n: the route is put, or the list is full and stays; what is refused leaves it; the route is taken away
-abbrev pub PutEffect : (number n : ℕ) → Route → (rs new : List Route) → Type 0
-PutEffect (suc number) n r rs new = new ≡ rs
+abbrev pub PutEffect : (refused n : ℕ) → Route → (rs new : List Route) → Type 0
+PutEffect (suc refused) n r rs new = new ≡ rs
 PutEffect zero n r rs new = SameMembers new (put r rs) ⊎ ((length rs ≡ n) × (length (put r rs) ≡ suc n) × (new ≡ rs))
 
 abbrev pub Effect : (n : ℕ) → Change → (rs new : List Route) → Type 0

@@ -1,5 +1,5 @@
 // Changes of a table: first the list, then the default and the trie after it.
-ghost use Rattle.std.specs.Prelude.{◌≡◌, true};
+ghost use Rattle.std.specs.Prelude.{◌≡◌, true, is_some};
 ghost use Rattle.prefix.specs.Words.{width};
 ghost use Rattle.prefix.specs.Routes.{route_of, good_route};
 ghost use Rattle.table.specs.Right.{Right};
@@ -15,26 +15,18 @@ use routes::Full;
 pub(crate) fn put<K: Key>(table: &mut [u32], prefix: Prefix<K>, hop: u32) -> Result<(), Full>
     ensures { Right K.Key.words table.old → good_route (width K.Key.words) (route_of (K.Key.num prefix.bits) prefix.len hop) ≡ true → PutSays K.Key.words table.old table.new (route_of (K.Key.num prefix.bits) prefix.len hop) result }
 {
-    match routes::insert(table, K::words() + 2, prefix, hop) {
-        Ok(_) => {
-            enter(table, prefix);
-            Ok(())
-        }
-        Err(full) => Err(full),
-    }
+    routes::insert(table, K::words() + 2, prefix, hop)?;
+    enter(table, prefix);
+    Ok(())
 }
 
-// Takes a route away. Where the trie cannot follow in place, since a hint failed, it is made anew from the list.
-pub(crate) fn away<K: Key>(table: &mut [u32], prefix: Prefix<K>) -> bool
-    ensures { Right K.Key.words table.old → AwaySays K.Key.words table.old table.new prefix.len (K.Key.num prefix.bits) result }
+// Takes a route away; None where there is none. Where the trie cannot follow in place, since a hint failed, it is made anew from the list.
+pub(crate) fn away<K: Key>(table: &mut [u32], prefix: Prefix<K>) -> Option<()>
+    ensures { Right K.Key.words table.old → AwaySays K.Key.words table.old table.new prefix.len (K.Key.num prefix.bits) (is_some result) }
 {
-    match routes::remove(table, K::words() + 2, prefix) {
-        Some(_) => {
-            follow(table, prefix);
-            true
-        }
-        None => false,
-    }
+    routes::remove(table, K::words() + 2, prefix)?;
+    follow(table, prefix);
+    Some(())
 }
 
 // The trie follows a route that has gone, in place or made anew.
@@ -42,7 +34,7 @@ fn follow<K: Key>(table: &mut [u32], prefix: Prefix<K>)
     ensures front { Front K.Key.words table.old table.new }
     ensures right { Left K.Key.words table.old table.new prefix.len (K.Key.num prefix.bits) true }
 {
-    if !leave(table, prefix) {
+    if leave(table, prefix).is_none() {
         rebuild::<K>(table);
     }
 }

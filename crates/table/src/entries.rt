@@ -1,5 +1,5 @@
 // The entries: thin functions on a lent row, for keys of 32 bits.
-ghost use Rattle.std.specs.Prelude.{◌≡◌, true, false, MatchOption};
+ghost use Rattle.std.specs.Prelude.{◌≡◌, true, false, is_ok, MatchOption};
 ghost use Rattle.prefix.specs.Routes.{answer, route_of, good_prefix};
 ghost use Rattle.table.specs.Right.{Right, Sound, listed, nodes};
 ghost use Rattle.table.specs.Follows.{Front};
@@ -8,18 +8,26 @@ ghost use Rattle.table.specs.Entries.{refusal, PutEntrySays, TakeAwaySays, Apply
 
 use crate::anew::rebuild;
 use crate::changes::{away, put};
+use crate::makes::Misfit;
 use crate::parts::{default_place, lookup};
 use prefix::Prefix;
 
+// Why a route is not put: its bits and its length are no prefix, or there is no such hop. These are refusals 1 and 2.
+#[derive(Clone, Copy, PartialEq, Eq)]
+pub enum Refusal {
+    Prefix = 1,
+    Hop = 2,
+}
+
 // What an entry answers.
-#[derive(Clone, Copy)]
+#[derive(Clone, Copy, PartialEq, Eq)]
 pub enum Done {
     To(u64),
     Nowhere,
     Ready,
     Full,
     Without,
-    Refused(u64),
+    Refused(Refusal),
 }
 
 // One change of a table.
@@ -37,7 +45,10 @@ pub fn look(table: &[u32], x: u32) -> Done
     ensures value { result ≡ told (found 1 table.now x) }
     ensures right { Right 1 table.now → result ≡ told (answer 32 (listed 1 table.now) x) }
 {
-    found(lookup(table, x))
+    match lookup(table, x) {
+        Some(hop) => Done::To(hop as u64),
+        None => Done::Nowhere,
+    }
 }
 
 // Puts a route. What is no prefix is refusal 1, a hop above 65,535 is refusal 2.
@@ -45,10 +56,10 @@ pub fn put_entry(table: &mut [u32], bits: u32, long: u64, to: u64) -> Done
     ensures { PutEntrySays (refusal bits long to) table.old table.new (route_of bits long to) result }
 {
     let Some(prefix) = good_prefix(bits, long) else {
-        return Done::Refused(1);
+        return Done::Refused(Refusal::Prefix);
     };
     if to > LAST_HOP {
-        return Done::Refused(2);
+        return Done::Refused(Refusal::Hop);
     }
     match put(table, prefix, to as u32) {
         Ok(()) => Done::Ready,
@@ -60,26 +71,21 @@ pub fn put_entry(table: &mut [u32], bits: u32, long: u64, to: u64) -> Done
 pub fn take_away(table: &mut [u32], bits: u32, long: u64) -> Done
     ensures { TakeAwaySays table.old table.new long bits result }
 {
-    if long > 32 {
+    let Some(prefix) = Prefix::new(bits, long) else {
         return Done::Without;
-    }
-    let prefix = Prefix {
-        bits,
-        len: long as u32,
     };
-    if away(table, prefix) {
-        Done::Ready
-    } else {
-        Done::Without
+    match away(table, prefix) {
+        Some(()) => Done::Ready,
+        None => Done::Without,
     }
 }
 
-// Makes the default and the trie anew from the list, whatever they hold. False where the row has not the parts of a table.
-pub fn make_anew(table: &mut [u32]) -> bool
+// Makes the default and the trie anew from the list, whatever they hold. Refused where the row has not the parts of a table.
+pub fn make_anew(table: &mut [u32]) -> Result<(), Misfit>
     ensures front { Front 1 table.old table.new }
-    ensures right { Sound 1 table.old → (result ≡ true) × Right 1 table.new }
+    ensures right { Sound 1 table.old → (is_ok result ≡ true) × Right 1 table.new }
 {
-    rebuild::<u32>(table)
+    rebuild::<u32>(table).ok_or(Misfit)
 }
 
 // Carries out one change.
@@ -115,22 +121,9 @@ pub fn nodes(table: &[u32]) -> u32
 fn good_prefix(bits: u32, len: u64) -> Option<Prefix<u32>>
     ensures { MatchOption result (good_prefix 32 len bits ≡ false) (λ p. (good_prefix 32 len bits ≡ true) × (p.bits ≡ bits) × (p.len ≡ len)) }
 {
-    if len > 32 {
+    let prefix = Prefix::new(bits, len)?;
+    if !prefix.is_good() {
         return None;
     }
-    let prefix = Prefix {
-        bits,
-        len: len as u32,
-    };
-    if prefix.is_good() { Some(prefix) } else { None }
-}
-
-fn found(answer: u32) -> Done
-    ensures { result ≡ told answer }
-{
-    if answer == 0 {
-        Done::Nowhere
-    } else {
-        Done::To((answer - 1) as u64)
-    }
+    Some(prefix)
 }

@@ -1,102 +1,130 @@
-// The nodes of a table lent on: each step of a change of the trie, made in the row's last part, with the count of nodes written beside it.
+// The parts of a table's row lent to be changed: each step of a change of the default or the trie, with the count of nodes written beside it.
 ghost use Rattle.std.specs.Prelude.{◌≡◌, ℕ, ◌+◌, ◌-◌, ◌*◌, ◌<◌, ◌≤◌, true, ◌≢◌, length, is_some, IfSome, MatchOption};
 ghost use Rattle.prefix.specs.Words.{width};
-ghost use Rattle.prefix.specs.Routes.{first};
-ghost use Rattle.prefix.specs.Map.{Hops, hops};
+ghost use Rattle.prefix.specs.Routes.{first, good, held, InOrder};
+ghost use Rattle.prefix.specs.Map.{Hops, hops, told};
 ghost use Rattle.trie.specs.Places.{Apart};
 ghost use Rattle.trie.specs.Shape.{TrieOf};
-ghost use Rattle.grow.specs.Ways.{WayMade, WayFound};
+ghost use Rattle.grow.specs.Ways.{depth_of, WayMade, WayFound};
+ghost use Rattle.grow.specs.Cells.{Says};
 ghost use Rattle.prune.specs.Free.{WithWay};
 ghost use Rattle.table.specs.Right.{room, default_at, listed, default, nodes, trie, Mapped};
-ghost use Rattle.table.specs.Follows.{Front, Beside, Last, Renewed};
+ghost use Rattle.table.specs.Follows.{Front, Beside, Last, Renewed, DefaultSet};
 
+use crate::parts::held;
 use crate::words::words_of;
-use prefix::{Key, Prefix};
+use prefix::{Key, Prefix, word_of};
+use std::marker::PhantomData;
 
-// Makes the way to a prefix, and answers its last node.
-pub(crate) fn make_way<K: Key>(table: &mut [u32], at: usize, prefix: Prefix<K>) -> Option<u32>
-    requires place { at ≡ default_at K.Key.words (room table.old) }
-    requires inside { at + 2 ≤ length table.old }
-    ensures beside { Beside K.Key.words table.old table.new }
-    ensures way { (m : Hops) → TrieOf (width K.Key.words) m (trie K.Key.words table.old) (nodes K.Key.words table.old) → 0 < prefix.len → prefix.len ≤ width K.Key.words → IfSome result (λ n. WayMade (width K.Key.words) m prefix.len (first (width K.Key.words) prefix.len (K.Key.num prefix.bits)) (trie K.Key.words table.new) (nodes K.Key.words table.new) n) }
-    ensures enough { (m : Hops) → Mapped K.Key.words table.old m → 0 < prefix.len → prefix.len ≤ width K.Key.words → Apart m (hops (width K.Key.words) (listed K.Key.words table.old)) prefix.len (first (width K.Key.words) prefix.len (K.Key.num prefix.bits)) → hops (width K.Key.words) (listed K.Key.words table.old) prefix.len (first (width K.Key.words) prefix.len (K.Key.num prefix.bits)) ≢ 0 → is_some result ≡ true }
-{
-    let (from, end) = (at + 2, table.len());
-    let count = table[at + 1];
-    let hints = hints_place::<K>(table[1]);
-    let Some(place) = grow::make_way(&mut table[from..end], count, hints, prefix) else {
-        return None;
-    };
-    table[at + 1] = place.count;
-    Some(place.node)
-}
-
-// The last node of the way to a prefix that is there.
-pub(crate) fn way_end<K: Key>(table: &[u32], at: usize, prefix: Prefix<K>) -> Option<u32>
-    requires place { at ≡ default_at K.Key.words (room table.now) }
-    requires inside { at + 2 ≤ length table.now }
-    ensures { (m : Hops) → TrieOf (width K.Key.words) m (trie K.Key.words table.now) (nodes K.Key.words table.now) → 0 < prefix.len → prefix.len ≤ width K.Key.words → m prefix.len (first (width K.Key.words) prefix.len (K.Key.num prefix.bits)) ≢ 0 → MatchOption result ⊥ (λ n. WayFound (width K.Key.words) m prefix.len (first (width K.Key.words) prefix.len (K.Key.num prefix.bits)) (trie K.Key.words table.now) (nodes K.Key.words table.now) n) }
-{
-    let (from, end) = (at + 2, table.len());
-    grow::way_end(&table[from..end], table[at + 1], prefix)
-}
-
-// Makes the words of a prefix's cells new, from the list.
-pub(crate) fn renew_words<K: Key>(
-    table: &mut [u32],
+// A row that has the parts of a table, lent to be changed. Its room stays, so that its default stays where it stands.
+#[derive(Drop)]
+pub(crate) struct Parts<'a, K: Key> {
+    row: &'a mut [u32],
     at: usize,
-    node: u32,
-    prefix: Prefix<K>,
-) -> bool
-    requires place { at ≡ default_at K.Key.words (room table.old) }
-    requires inside { at + 2 ≤ length table.old }
-    requires some { 0 < prefix.len }
-    requires short { prefix.len ≤ width K.Key.words }
-    ensures { Renewed K.Key.words table.old table.new prefix.len (first (width K.Key.words) prefix.len (K.Key.num prefix.bits)) node result }
-{
-    let (from, end) = (at + 2, table.len());
-    let mask = grow::cells(prefix);
-    let words = words_of(table, prefix, mask);
-    grow::write_words(&mut table[from..end], node, mask, &words)
+    keys: PhantomData<K>,
+    ghost place: { at ≡ default_at K.Key.words (room row.now) },
+    ghost inside: { at + 2 ≤ length row.now },
 }
 
-// The same for the last route of a list in order, without a search: its word goes into all of its prefix's cells, since a longer route that shares one would come later.
-pub(crate) fn write_last<K: Key>(
-    table: &mut [u32],
-    at: usize,
-    node: u32,
-    prefix: Prefix<K>,
-    hop: u32,
-) -> bool
-    requires place { at ≡ default_at K.Key.words (room table.old) }
-    requires inside { at + 2 ≤ length table.old }
-    requires some { 0 < prefix.len }
-    requires short { prefix.len ≤ width K.Key.words }
-    ensures beside { Beside K.Key.words table.old table.new }
-    ensures renewed { Last K.Key.words table.old (K.Key.num prefix.bits) prefix.len hop → Renewed K.Key.words table.old table.new prefix.len (first (width K.Key.words) prefix.len (K.Key.num prefix.bits)) node result }
-{
-    let (from, end) = (at + 2, table.len());
-    let mask = grow::cells(prefix);
-    let words = [hop.wrapping_add(1); 16];
-    grow::write_words(&mut table[from..end], node, mask, &words)
-}
-
-// Gives the nodes back that have become empty on the way to a prefix.
-pub(crate) fn give_back<K: Key>(table: &mut [u32], at: usize, prefix: Prefix<K>) -> bool
-    requires place { at ≡ default_at K.Key.words (room table.old) }
-    requires inside { at + 2 ≤ length table.old }
-    ensures beside { Beside K.Key.words table.old table.new }
-    ensures right { (m : Hops) → WithWay (width K.Key.words) prefix.len (K.Key.num prefix.bits) m (trie K.Key.words table.old) (nodes K.Key.words table.old) → result ≡ true → TrieOf (width K.Key.words) m (trie K.Key.words table.new) (nodes K.Key.words table.new) }
-{
-    let (from, end) = (at + 2, table.len());
-    let count = table[at + 1];
-    let hints = hints_place::<K>(table[1]);
-    match prune::prune(&mut table[from..end], count, hints, prefix) {
-        Some(left) => {
-            table[at + 1] = left;
-            true
+impl<'a, K: Key> Parts<'a, K> {
+    // The parts of a row whose default stands at a place.
+    pub(crate) fn over(row: &'a mut [u32], at: usize) -> Parts<'a, K>
+        requires place { at ≡ default_at K.Key.words (room row.old) }
+        requires inside { at + 2 ≤ length row.old }
+        ensures same { result.row.now ≡ row.old }
+        ensures lent { result.row.ghost_name ≡ row.entry.ghost_name }
+    {
+        Parts {
+            row,
+            at,
+            keys: PhantomData,
         }
-        None => false,
+    }
+
+    // Writes what the list says of the prefix of no bits.
+    pub(crate) fn set_default(&mut self, prefix: Prefix<K>)
+        ensures set { DefaultSet K.Key.words self.old.row.now self.new.row.now prefix.len (K.Key.num prefix.bits) }
+        ensures lent { self.new.row.ghost_name ≡ self.old.row.ghost_name }
+    {
+        let word = word_of(self.held(prefix));
+        self.row[self.at] = word;
+    }
+
+    // The hop that the list has for a prefix.
+    fn held(&self, prefix: Prefix<K>) -> Option<u32>
+        ensures { InOrder (listed K.Key.words self.now.row.now) → told result ≡ held prefix.len (K.Key.num prefix.bits) (listed K.Key.words self.now.row.now) }
+    {
+        held(self.row, prefix)
+    }
+
+    // The words of the cells that the mask marks, in the last node of the way to a prefix.
+    fn words_of(&self, prefix: Prefix<K>, mask: u16) -> [u32; 16]
+        requires some { 0 < prefix.len }
+        requires short { prefix.len ≤ width K.Key.words }
+        ensures { InOrder (listed K.Key.words self.now.row.now) → good (width K.Key.words) (listed K.Key.words self.now.row.now) ≡ true → Says (hops (width K.Key.words) (listed K.Key.words self.now.row.now)) prefix.len (first (width K.Key.words) prefix.len (K.Key.num prefix.bits)) (depth_of prefix.len) mask result }
+    {
+        words_of(self.row, prefix, mask)
+    }
+
+    // Makes the way to a prefix, and answers its last node.
+    pub(crate) fn make_way(&mut self, prefix: Prefix<K>) -> Option<u32>
+        ensures beside { Beside K.Key.words self.old.row.now self.new.row.now }
+        ensures way { (m : Hops) → TrieOf (width K.Key.words) m (trie K.Key.words self.old.row.now) (nodes K.Key.words self.old.row.now) → 0 < prefix.len → prefix.len ≤ width K.Key.words → IfSome result (λ n. WayMade (width K.Key.words) m prefix.len (first (width K.Key.words) prefix.len (K.Key.num prefix.bits)) (trie K.Key.words self.new.row.now) (nodes K.Key.words self.new.row.now) n) }
+        ensures enough { (m : Hops) → Mapped K.Key.words self.old.row.now m → 0 < prefix.len → prefix.len ≤ width K.Key.words → Apart m (hops (width K.Key.words) (listed K.Key.words self.old.row.now)) prefix.len (first (width K.Key.words) prefix.len (K.Key.num prefix.bits)) → hops (width K.Key.words) (listed K.Key.words self.old.row.now) prefix.len (first (width K.Key.words) prefix.len (K.Key.num prefix.bits)) ≢ 0 → is_some result ≡ true }
+        ensures fits { is_some result ≡ true → (0 < prefix.len) × (prefix.len ≤ width K.Key.words) }
+        ensures lent { self.new.row.ghost_name ≡ self.old.row.ghost_name }
+    {
+        let count = self.row[self.at + 1];
+        let hints = hints_place::<K>(self.row[1]);
+        let place = grow::make_way(&mut self.row[self.at + 2..], count, hints, prefix)?;
+        self.row[self.at + 1] = place.count;
+        Some(place.node)
+    }
+
+    // The last node of the way to a prefix that is there.
+    pub(crate) fn way_end(&self, prefix: Prefix<K>) -> Option<u32>
+        ensures end { (m : Hops) → TrieOf (width K.Key.words) m (trie K.Key.words self.now.row.now) (nodes K.Key.words self.now.row.now) → 0 < prefix.len → prefix.len ≤ width K.Key.words → m prefix.len (first (width K.Key.words) prefix.len (K.Key.num prefix.bits)) ≢ 0 → MatchOption result ⊥ (λ n. WayFound (width K.Key.words) m prefix.len (first (width K.Key.words) prefix.len (K.Key.num prefix.bits)) (trie K.Key.words self.now.row.now) (nodes K.Key.words self.now.row.now) n) }
+        ensures fits { is_some result ≡ true → (0 < prefix.len) × (prefix.len ≤ width K.Key.words) }
+    {
+        grow::way_end(&self.row[self.at + 2..], self.row[self.at + 1], prefix)
+    }
+
+    // Makes the words of a prefix's cells new, from the list.
+    pub(crate) fn renew_words(&mut self, node: u32, prefix: Prefix<K>) -> Option<()>
+        requires some { 0 < prefix.len }
+        requires short { prefix.len ≤ width K.Key.words }
+        ensures renewed { Renewed K.Key.words self.old.row.now self.new.row.now prefix.len (first (width K.Key.words) prefix.len (K.Key.num prefix.bits)) node (is_some result) }
+        ensures lent { self.new.row.ghost_name ≡ self.old.row.ghost_name }
+    {
+        let mask = grow::cells(prefix);
+        let words = self.words_of(prefix, mask);
+        grow::write_words(&mut self.row[self.at + 2..], node, mask, &words)
+    }
+
+    // The same for the last route of a list in order, without a search: its word goes into all of its prefix's cells, since a longer route that shares one would come later.
+    pub(crate) fn write_last(&mut self, node: u32, prefix: Prefix<K>, hop: u32) -> Option<()>
+        requires some { 0 < prefix.len }
+        requires short { prefix.len ≤ width K.Key.words }
+        ensures beside { Beside K.Key.words self.old.row.now self.new.row.now }
+        ensures renewed { Last K.Key.words self.old.row.now (K.Key.num prefix.bits) prefix.len hop → Renewed K.Key.words self.old.row.now self.new.row.now prefix.len (first (width K.Key.words) prefix.len (K.Key.num prefix.bits)) node (is_some result) }
+        ensures lent { self.new.row.ghost_name ≡ self.old.row.ghost_name }
+    {
+        let mask = grow::cells(prefix);
+        let words = [word_of(Some(hop)); 16];
+        grow::write_words(&mut self.row[self.at + 2..], node, mask, &words)
+    }
+
+    // Gives the nodes back that have become empty on the way to a prefix.
+    pub(crate) fn give_back(&mut self, prefix: Prefix<K>) -> Option<()>
+        ensures beside { Beside K.Key.words self.old.row.now self.new.row.now }
+        ensures right { (m : Hops) → WithWay (width K.Key.words) prefix.len (K.Key.num prefix.bits) m (trie K.Key.words self.old.row.now) (nodes K.Key.words self.old.row.now) → is_some result ≡ true → TrieOf (width K.Key.words) m (trie K.Key.words self.new.row.now) (nodes K.Key.words self.new.row.now) }
+        ensures lent { self.new.row.ghost_name ≡ self.old.row.ghost_name }
+    {
+        let count = self.row[self.at + 1];
+        let hints = hints_place::<K>(self.row[1]);
+        let left = prune::prune(&mut self.row[self.at + 2..], count, hints, prefix)?;
+        self.row[self.at + 1] = left;
+        Some(())
     }
 }
 

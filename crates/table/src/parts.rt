@@ -1,24 +1,24 @@
 // The parts of a table's row, and a lookup over them.
-ghost use Rattle.std.specs.Prelude.{◌≡◌, ℕ, ◌+◌, ◌<◌, ◌≤◌, length, MatchOption};
+ghost use Rattle.std.specs.Prelude.{◌≡◌, ℕ, ◌+◌, ◌^◌, ◌<◌, ◌≤◌, length, MatchOption};
 ghost use Rattle.prefix.specs.Words.{width};
-ghost use Rattle.prefix.specs.Routes.{answer};
-ghost use Rattle.prefix.specs.Map.{or_else};
-ghost use Rattle.table.specs.Right.{Right, room, default_at, listed};
+ghost use Rattle.prefix.specs.Routes.{answer, held, InOrder};
+ghost use Rattle.prefix.specs.Map.{told};
+ghost use Rattle.table.specs.Right.{Right, room, stride, default_at, listed};
 ghost use Rattle.table.specs.Answers.{found};
 
-use prefix::Key;
+use prefix::{Key, Prefix, hop_in};
+use routes::List;
 use trie::Trie;
 
-// 0, or one more than the hop of the longest route that matches the key, for keys of any words.
-pub fn lookup<K: Key>(table: &[u32], key: K) -> u32
-    ensures value { result ≡ found K.Key.words table.now (K.Key.num key) }
-    ensures right { Right K.Key.words table.now → result ≡ answer (width K.Key.words) (listed K.Key.words table.now) (K.Key.num key) }
+// The hop of the longest route that matches the key, for keys of any words.
+pub fn lookup<K: Key>(table: &[u32], key: K) -> Option<u32>
+    ensures value { told result ≡ found K.Key.words table.now (K.Key.num key) }
+    ensures right { Right K.Key.words table.now → told result ≡ answer (width K.Key.words) (listed K.Key.words table.now) (K.Key.num key) }
+    ensures low { told result < 2 ^ 32 }
 {
-    let Some(at) = default_place::<K>(table) else {
-        return 0;
-    };
+    let at = default_place::<K>(table)?;
     let nodes = &table[at + 2..];
-    or_else(Trie::over(nodes).look(key), table[at])
+    Trie::over(nodes).look(key).or(hop_in(table[at]))
 }
 
 // Where the default stands, if the row has it and the count of nodes.
@@ -29,16 +29,23 @@ pub(crate) fn default_place<K: Key>(table: &[u32]) -> Option<usize>
         return None;
     }
     let at = 2 + (K::words() + 2) * table[1] as usize;
-    if at + 2 <= table.len() {
-        Some(at)
-    } else {
-        None
+    if at + 2 > table.len() {
+        return None;
     }
+    Some(at)
 }
 
-// The first number, or the second where that is 0.
-fn or_else(a: u32, b: u32) -> u32
-    ensures { result ≡ or_else a b }
+// The table's list of routes, to be read.
+pub(crate) fn list<K: Key>(table: &[u32]) -> List<'_, K>
+    ensures row { result.row.now ≡ table.now }
+    ensures stride { result.stride ≡ stride K.Key.words }
 {
-    if a == 0 { b } else { a }
+    List::over(table, K::words() + 2)
+}
+
+// The hop that the list has for a prefix.
+pub(crate) fn held<K: Key>(table: &[u32], prefix: Prefix<K>) -> Option<u32>
+    ensures { InOrder (listed K.Key.words table.now) → told result ≡ held prefix.len (K.Key.num prefix.bits) (listed K.Key.words table.now) }
+{
+    list(table).get(prefix)
 }

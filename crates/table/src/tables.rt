@@ -1,5 +1,5 @@
 // A table held open: it borrows its row for as long as it is kept, and its owner knows afterwards what the row holds.
-ghost use Rattle.std.specs.Prelude.{◌≡◌, true};
+ghost use Rattle.std.specs.Prelude.{◌≡◌, true, is_ok};
 ghost use Rattle.prefix.specs.Routes.{answer, route_of};
 ghost use Rattle.routes.specs.Rows.{count_in, room_in};
 ghost use Rattle.table.specs.Right.{Right, Sound, stride, listed, nodes};
@@ -9,6 +9,7 @@ ghost use Rattle.table.specs.Entries.{refusal, PutEntrySays, TakeAwaySays, Apply
 
 use crate::entries;
 use crate::entries::{Change, Done};
+use crate::makes::Misfit;
 use routes::Extent;
 
 #[derive(Drop)]
@@ -81,9 +82,9 @@ impl<'a> Table<'a> {
     }
 
     // Makes the default and the trie anew from the list.
-    pub fn make_anew(&mut self) -> bool
+    pub fn make_anew(&mut self) -> Result<(), Misfit>
         ensures front { Front 1 self.old.row.now self.new.row.now }
-        ensures right { Sound 1 self.old.row.now → (result ≡ true) × Right 1 self.new.row.now }
+        ensures right { Sound 1 self.old.row.now → (is_ok result ≡ true) × Right 1 self.new.row.now }
         ensures lent { self.new.row.ghost_name ≡ self.old.row.ghost_name }
     {
         entries::make_anew(self.row)

@@ -9,6 +9,7 @@ ghost use Rattle.grow.specs.Ways.{depth_of};
 ghost use Rattle.grow.specs.Cells.{bit, Says};
 ghost use Rattle.table.specs.Words.{down};
 
+use crate::parts::held;
 use prefix::{Key, Prefix};
 
 // The words of the cells that the mask marks, in the last node of the way to a prefix; 0 for the others.
@@ -51,7 +52,7 @@ fn longest_of<K: Key>(table: &[u32], path: K, len: u32, more: u32) -> u32
         return 0;
     }
     let bits = path.placed(len);
-    match routes::get(table, K::words() + 2, Prefix { bits, len }) {
+    match held(table, Prefix { bits, len }) {
         Some(hop) => hop.wrapping_add(1),
         None => longest_of(table, path.half(), len - 1, more - 1),
     }

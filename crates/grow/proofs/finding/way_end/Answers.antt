@@ -9,5 +9,6 @@ returns g c =
     let small = c.follow.ensures.small in
     record {
       below = c.follow.ensures.below (omega arith);
+      fits = λ e. (omega arith, omega arith);
       end = λ m h some short n. c.follow.ensures.end m _ _ 0 (ahead_start _ _ _ some short small) (root_walk _ _ h some (first_small _ _ _ short small)) n;
     }

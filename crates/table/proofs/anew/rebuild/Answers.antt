@@ -3,13 +3,13 @@ use Rattle.std.proofs.Common.{refl, arith}
 use Rattle.table.proofs.AnewSteps.{alike_trans, front_back, begun_all}
 use Rattle.table.proofs.anew.rebuild.Goals as goal
 
-pub returns-in_default : goal.returns-in_default
-returns-in_default g c =
-    record { front = record { long = refl; same = λ i h. refl }; right = λ s. absurd (omega (arith, c.in_default.ensures, s.long)) }
+pub returns-in_err-at : goal.returns-in_err-at
+returns-in_err-at g c =
+    record { front = record { long = refl; same = λ i h. refl }; right = λ s. absurd (omega (arith, c.in_err-at.ensures, s.long)) }
 
 pub returns-then-at-table : goal.returns-then-at-table
 returns-then-at-table g c =
-    record { front = record { long = refl; same = λ i h. refl }; right = λ s. absurd (omega (arith, c.in-Some.ensures, c.if-at-table.true, s.long)) }
+    record { front = record { long = refl; same = λ i h. refl }; right = λ s. absurd (omega (arith, c.in_ok-at.ensures, c.if-at-table.true, s.long)) }
 
 pub returns : goal.returns
 returns g c =

@@ -3,8 +3,8 @@ use Rattle.table.proofs.Lent.{front_trans}
 use Rattle.table.proofs.Following.{sound_still}
 use Rattle.table.proofs.changes.follow.Goals as goal
 
-pub returns-then-not-leave : goal.returns-then-not-leave
-returns-then-not-leave g c =
+pub returns-then-is_none : goal.returns-then-is_none
+returns-then-is_none g c =
     let f = c.leave.ensures.front in
     record {
       front = front_trans g.K.Key.words c.args.table.now c.leave.new.table c.rebuild.new.table f c.rebuild.ensures.front;

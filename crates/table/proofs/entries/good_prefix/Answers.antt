@@ -4,6 +4,6 @@ use Rattle.std.proofs.lemmas.Bool.Decides.{nat_tests}
 use Rattle.prefix.specs.Routes.{good_prefix}
 use Rattle.table.proofs.entries.good_prefix.Goals as goal
 
-pub returns-then-len-gt32 : goal.returns-then-len-gt32
+pub returns-in_err-prefix : goal.returns-in_err-prefix
 unfolding good_prefix
-returns-then-len-gt32 c = grind (arith, nat_tests)
+returns-in_err-prefix c = let e = c.in_err-prefix.ensures in rw c.from_residual.ensures (grind (arith, nat_tests))

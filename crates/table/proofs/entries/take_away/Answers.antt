@@ -1,13 +1,13 @@
 -- What taking away says; no good route is longer than 32 bits.
-use Rattle.std.proofs.Common.{refl, inl, inr}
+use Rattle.std.proofs.Common.{refl, inl, inr, arith}
 use Rattle.table.proofs.Refusals.{too_long}
 use Rattle.table.proofs.entries.take_away.Goals as goal
 
-pub returns-then-long-gt32 : goal.returns-then-long-gt32
-returns-then-long-gt32 c right = inr (refl, record { none = too_long c.args.long c.args.bits c.args.table.now right c.if-long-gt32.true; same = refl })
+pub returns-in_default : goal.returns-in_default
+returns-in_default c right = inr (refl, record { none = too_long c.args.long c.args.bits c.args.table.now right (omega (arith, c.in_default.ensures)); same = refl })
 
-pub returns-then-away : goal.returns-then-away
-returns-then-away c right = inl (refl, c.if-away.ensures right)
+pub returns-in-Some-away : goal.returns-in-Some-away
+returns-in-Some-away c right = let p = c.in-Some.ensures in inl (refl, rw (p.0, p.1) at (c.in-Some-away.ensures right))
 
-pub returns-else-away : goal.returns-else-away
-returns-else-away c right = inr (refl, c.if-away.ensures right)
+pub returns-in-None : goal.returns-in-None
+returns-in-None c right = let p = c.in-Some.ensures in inr (refl, rw (p.0, p.1) at (c.in-None.ensures right))

@@ -15,10 +15,10 @@ longest_of-requires g t c κs within =
 pub returns-in-Some : goal.returns-in-Some
 returns-in-Some g t c order good =
     found_word (width g.K.Key.words) (listed g.K.Key.words c.args.table.now) c.args.len (g.K.Key.num c.args.path) _ c.args.more (omega arith) c.placed-bits.ensures c.in-Some.hop good
-    ((rw c.words.ensures at c.in-Some.ensures.held) order)
+    (c.in-Some.ensures order)
 
 pub returns-in-None : goal.returns-in-None
 returns-in-None g t c order good =
     c.longest_of.ensures order good ∙ ap (λ (p : ℕ). down (hops (width g.K.Key.words) (listed g.K.Key.words c.args.table.now)) (c.args.len - 1) p (c.args.more - 1)) c.half.ensures
     ∙ missed_word (width g.K.Key.words) (listed g.K.Key.words c.args.table.now) c.args.len (g.K.Key.num c.args.path) _ c.args.more (omega arith) c.placed-bits.ensures
-    ((rw c.words.ensures at c.in-None.ensures.held) order)
+    (c.in-None.ensures order)

@@ -1,5 +1,5 @@
 -- The proof of `look`: a lookup is right on the trie of a map, and so on that of a list.
-use Rattle.std.proofs.Common.{◌≡◌, ℕ, ◌-◌, ◌*◌, ◌/◌, ◌^◌, ◌<◌, ◌∙◌, arith, rules}
+use Rattle.std.proofs.Common.{◌≡◌, ℕ, ◌-◌, ◌*◌, ◌/◌, ◌^◌, ◌<◌, ◌∙◌, arith}
 use Rattle.prefix.specs.Words.{width}
 use Rattle.prefix.specs.Map.{told}
 use Rattle.trie.specs.Nodes.{nibbles, looked}
@@ -16,10 +16,10 @@ returns g c =
     let small : key / 2 ^ (width n - 4) < 16 = c.descend.ensures.small (omega arith) in
     let value : c.descend.result ≡ looked c.args.self.now.nodes.now 0 (nibbles (width n) (8 * n) key) 0 =
     rw c.words.ensures at c.descend.ensures.value in
-    let said : told c.hop_in.result ≡ looked c.args.self.now.nodes.now 0 (nibbles (width n) (8 * n) key) 0 = c.hop_in.ensures ∙ value in
+    let said : told c.hop_in.result ≡ looked c.args.self.now.nodes.now 0 (nibbles (width n) (8 * n) key) 0 = c.hop_in.ensures.value ∙ value in
     record {
       value = said;
       right = λ m count trie. rw said (looked_longest trie (8 * n) key steps wide small);
       agrees = λ rs count g trie. rw said (looked_answer rs g trie (8 * n) key steps wide small);
-      low = rw c.hop_in.ensures (search rules);
+      low = c.hop_in.ensures.low;
     }
