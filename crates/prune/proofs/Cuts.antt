@@ -24,26 +24,27 @@ either_number t a y n =
     (cases_eq (y % 2) 0)
 
 -- nothing is free
-pub none_free : {w : ℕ} {m : Hops} {t : List ℕ} {nodes : ℕ} {depth path : ℕ → ℕ} (free : List ℕ)
-    → Shape w (local m) (Deeper m) (said t) (goes t) (λ i. i < nodes) depth path → Partly w m t nodes free 0
-none_free {depth = depth} {path = path} free s =
+pub none_free : {w : ℕ} {m : Hops} {t : List ℕ} {nodes : ℕ} {depth path : ℕ → ℕ} (free : List ℕ) (left : ℕ) → left ≡ 0
+    → Shape w (local m) (Deeper m) (said t) (goes t) (λ i. i < nodes) depth path → Partly w m t nodes free left
+none_free {depth = depth} {path = path} free left none s =
     record {
       differ = λ p r z. absurd (omega arith);
       loose = record { depth = depth; path = path; shape = same_live s (λ a l. record { below = l; off = λ p z. absurd (omega arith) }) (λ a u. u.below) };
     }
 
 -- only the root is on the way
-pub short_way : {w : ℕ} {m : Hops} {l q top nodes : ℕ} {t : List ℕ} (free : List ℕ) → top ≡ 0 → Held w (local m) (Along m l q top) t nodes → Partly w m t nodes free 0
-short_way {w} {m} {l} {q} {nodes = nodes} {t = t} free e h =
-    none_free free (remove_all m l q 0 (subst (λ (x : ℕ). Shape w (local m) (Along m l q x) (said t) (goes t) (λ i. i < nodes) h.depth h.path) e h.shape))
+pub short_way : {w : ℕ} {m : Hops} {l q top nodes : ℕ} {t : List ℕ} (free : List ℕ) (left : ℕ) → left ≡ 0 → top ≡ 0 → Held w (local m) (Along m l q top) t nodes
+    → Partly w m t nodes free left
+short_way {w} {m} {l} {q} {nodes = nodes} {t = t} free left none e h =
+    none_free free left none (remove_all m l q 0 (subst (λ (x : ℕ). Shape w (local m) (Along m l q x) (said t) (goes t) (λ i. i < nodes) h.depth h.path) e h.shape))
 
 module _ {w : ℕ} {m : Hops} {l q top nodes : ℕ} {t : List ℕ} (h : Held w (local m) (Along m l q top) t nodes) {cur place : ℕ} {free : List ℕ} {left : ℕ}
     (c : Chain h top cur place free left) (here : cur < nodes) where
   -- the last node is not empty
-  pub kept_way : (y : ℕ) → y < 32 → get_or t (32 * cur + y) 0 ≢ 0 → Partly w m t nodes free 0
-  kept_way y s n =
-      none_free free
-      (remove_done m l q top cur h.shape c.deep c.way (still_needed m l q top cur (y / 2) h.shape here (omega arith) c.deep (either_number t cur y n)))
+  pub kept_way : (place' : ℕ) (free' : List ℕ) (left' : ℕ) → left' ≡ 0 → Stays t cur place' → Partly w m t nodes free' left'
+  kept_way place' free' left' none s =
+      none_free free' left' none
+      (remove_done m l q top cur h.shape c.deep c.way (still_needed m l q top cur (s.number / 2) h.shape here (omega (arith, s.small)) c.deep (either_number t cur s.number s.some)))
 
   module _ (some : 0 < left) (short : l ≤ 4 * (top + 1)) (empty : (y : ℕ) → y < 32 → get_or t (32 * cur + y) 0 ≡ 0) where
     -- so the map needs it no more

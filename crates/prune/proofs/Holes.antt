@@ -1,6 +1,6 @@
 -- A node moved to a free number: what the writes leave of the row, and which nodes are free then. For the proofs of `move_last`, `close_one` and `close_up`. Assumes nothing.
-use Rattle.std.proofs.Common.{◌≡◌, ℕ, ◌+◌, ◌-◌, ◌*◌, ◌/◌, ◌%◌, ◌<◌, ◌≤◌, ◌≢◌, ◌⊎◌, List, length, get_or, set, sym, refl, ap, ◌∙◌, subst, inl, inr, ⊎_elim, arith}
-use Rattle.std.proofs.lemmas.List.{get_or-set_same, get_or-set_other}
+use Rattle.std.proofs.Common.{◌≡◌, ℕ, ◌+◌, ◌-◌, ◌*◌, ◌/◌, ◌%◌, ◌<◌, ◌≤◌, ◌≢◌, ◌⊎◌, List, ◌++◌, length, take, drop, get_or, set, sym, refl, ap, ◌∙◌, subst, inl, inr, ⊎_elim, arith}
+use Rattle.std.proofs.lemmas.List.{get_or-set_same, get_or-set_other, get_or-take, get_or_append_left, length-take-le}
 use Rattle.std.proofs.lemmas.Bool.{cases_eq, cases_lt, eq-eqb, ne_eqb}
 use Rattle.prefix.specs.Map.{Hops}
 use Rattle.trie.specs.Nodes.{said, goes}
@@ -235,6 +235,43 @@ closed_moved nodes free left at inside long low d h =
             shape = same_live h.shape (last_moved free left at inside long nodes d low) (moved_last free left at inside long nodes);
           };
     }
+
+-- only the numbers that stand first count
+same_numbers :
+    {w : ℕ} {m : Hops} {t : List ℕ} (nodes : ℕ) (free free' : List ℕ) (left : ℕ) → ((p : ℕ) → p < left → get_or free' p 0 ≡ get_or free p 0)
+    → Partly w m t nodes free left → Partly w m t nodes free' left
+same_numbers nodes free free' left same h =
+    record {
+      differ = λ p r pl rl e. h.differ p r pl rl (sym (same p pl) ∙ e ∙ same r rl);
+      loose =
+          record {
+            depth = h.loose.depth;
+            path = h.loose.path;
+            shape =
+                same_live h.loose.shape
+                (λ a u. record { below = u.below; off = λ p l g. u.off p l (sym (same p l) ∙ g) })
+                (λ a u. record { below = u.below; off = λ p l g. u.off p l (same p l ∙ g) });
+          };
+    }
+
+-- so they may be lent alone
+pub part_lent :
+    {w : ℕ} {m : Hops} {t : List ℕ} (nodes : ℕ) (free : List ℕ) (left : ℕ) → left ≤ length free
+    → Partly w m t nodes free left → Partly w m t nodes (take left free) (length (take left free))
+part_lent nodes free left long h =
+    let e : length (take left free) ≡ left = length-take-le left free long in
+    rw e (same_numbers nodes free (take left free) left (λ p l. get_or-take left free p 0 l) h)
+
+-- for one turn, after which they come back before the others
+pub turn :
+    {w : ℕ} {m : Hops} {t t' : List ℕ} (nodes left k : ℕ) (free part : List ℕ) → left ≡ k + 1 → left ≤ length free → length part ≡ length (take (k + 1) free)
+    → (Partly w m t nodes (take (k + 1) free) (length (take (k + 1) free)) → Partly w m t' (nodes - 1) part (length (take (k + 1) free) - 1))
+    → Partly w m t nodes free left → Partly w m t' (nodes - 1) (part ++ drop (k + 1) free) k
+turn {w} {m} {t} {t'} nodes left k free part one long same turned h =
+    let lent = part_lent nodes free (k + 1) (omega arith) (subst (λ (x : ℕ). Partly w m t nodes free x) one h) in
+    let e : length (take (k + 1) free) ≡ k + 1 = length-take-le (k + 1) free (omega arith) in
+    let z : length (take (k + 1) free) - 1 ≡ k = omega arith in
+    same_numbers (nodes - 1) part (part ++ drop (k + 1) free) k (λ p l. get_or_append_left part (drop (k + 1) free) 0 p (omega arith)) (rw z at (turned lent))
 
 -- no number is free: the first nodes are the trie
 pub closed : {w : ℕ} {m : Hops} {t : List ℕ} (nodes : ℕ) (free : List ℕ) (left : ℕ) → left ≡ 0 → 32 * nodes ≤ length t → Partly w m t nodes free left → TrieOf w m t nodes

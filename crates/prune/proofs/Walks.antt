@@ -11,7 +11,8 @@ use Rattle.trie.specs.Shape.{local, Deeper, Child, Held}
 use Rattle.trie.specs.Places.{Way, step, Along}
 use Rattle.trie.proofs.Shapes.{carry}
 use Rattle.trie.proofs.Places.{way_root, way_on, shows}
-use Rattle.prune.specs.Walk.{Stays, Bare, Chain, Walked, Rest}
+use Rattle.prune.specs.Walk.{Stays, Bare, Chain, Stepped, Walked, Rest}
+use Rattle.prune.specs.Free.{WithWay}
 
 -- behind one nibble, and behind one more
 pub rest_start : (w x : ℕ) → Rest w 1 x (rest_of w x)
@@ -165,87 +166,105 @@ way_there {l = l} {q = q} {t = t} h cur d k here deep way long far is =
 pub root_way : {w : ℕ} {m : Hops} {l q top nodes : ℕ} {t : List ℕ} (h : Held w (local m) (Along m l q top) t nodes) → 0 < l → q < 2 ^ l → Way l q 0 (h.path 0)
 root_way {l = l} {q = q} h pos fits = carry (Way l q) refl (sym h.shape.top.1) (way_root l q pos fits)
 
--- the first step of a walk
-pub walked_start :
-    (w l x nodes : ℕ) (t : List ℕ) (k : ℕ) (free : List ℕ) → 4 ≤ w → 4 < l → l ≤ w → k ≡ x / 2 ^ (w - 4) → k < 16 → 0 < nodes
-    → get_or t (2 * k + 1) 0 ≢ 0 → get_or t (2 * k + 1) 0 < nodes → 0 < length free
-    → Walked w l x nodes t 1 (get_or t (2 * k + 1) 0) (2 * k + 1) (set free 0 (get_or t (2 * k + 1) 0)) 1
-walked_start w l x nodes t k free wide long short is small pos some below room =
-    let q : ℕ = first w l x in
-    let e : 32 * 0 + (2 * k + 1) ≡ 2 * k + 1 = omega arith in
-    let n : get_or t (32 * 0 + (2 * k + 1)) 0 ≢ 0 = rw e some in
-    let fits : first w l x < 2 ^ l = prefix_fits w l x wide short (omega arith) in
-    record {
-      here = below;
-      low = omega arith;
-      some = omega arith;
-      few = omega arith;
-      deep = omega arith;
-      chain =
-          λ m h. subst (λ (p : ℕ). Chain h (0 + 1) (get_or t p 0) p (set free 0 (get_or t p 0)) 1) e
-          (chain_new h 0 0 k pos h.shape.top.0 (root_way h (omega arith) fits) (omega arith) (root_step w l x k (omega arith) short is small) n free room (inl refl));
-    }
+-- a walk before its first step, or behind some: at depth d, with y left of the key
+pub record Going (w l x nodes : ℕ) (t : List ℕ) (d y cur place : ℕ) (free : List ℕ) (left : ℕ) : Type 0 where
+  pub here : cur < nodes
+  pub few : left ≤ d
+  pub stands : ((d ≡ 0) × (y ≡ x) × (cur ≡ 0)) ⊎ (Rest w d x y × Walked w l x nodes t d cur place free left)
 
--- and each later one: the last node stays, or it is one more that may be free
-pub walked_on :
-    (w l x nodes : ℕ) (t : List ℕ) (d cur place : ℕ) (free : List ℕ) (left y k : ℕ) (cur' place' : ℕ) (free' : List ℕ) (left' : ℕ)
-    → Walked w l x nodes t d cur place free left → Rest w d x y → 4 * (d + 1) < l → l ≤ w → k ≡ y / 2 ^ (w - 4) → k < 16
-    → get_or t (32 * cur + (2 * k + 1)) 0 ≢ 0 → get_or t (32 * cur + (2 * k + 1)) 0 < nodes → left < length free
-    → cur' ≡ get_or t (32 * cur + (2 * k + 1)) 0
-    → (Stays t cur (32 * cur + (2 * k + 1)) × (place' ≡ 32 * cur + (2 * k + 1)) × (left' ≡ 1) × (free' ≡ set free 0 (get_or t (32 * cur + (2 * k + 1)) 0)))
-    ⊎ (Bare t cur (32 * cur + (2 * k + 1)) × (place' ≡ place) × (left' ≡ left + 1) × (free' ≡ set free left (get_or t (32 * cur + (2 * k + 1)) 0)))
-    → Walked w l x nodes t (d + 1) cur' place' free' left'
-walked_on w l x nodes t d cur place free left y k cur' place' free' left' v rest long short is small some below room e how =
-    let s : k ≡ step l (first w l x) d = next_step w l d x y k rest (omega arith) short is in
-    let here = v.here in
-    let few = v.few in
-    ⊎_elim
-    (λ (o : Stays t cur (32 * cur + (2 * k + 1)) × (place' ≡ 32 * cur + (2 * k + 1)) × (left' ≡ 1) × (free' ≡ set free 0 (get_or t (32 * cur + (2 * k + 1)) 0))).
-    let e₁ = o.1 in
-    let e₂ = o.2 in
-    let e₃ = o.3 in
-    rw (e, e₁, e₂, e₃)
-    record {
-      here = below;
-      low = omega arith;
-      some = omega arith;
-      few = omega arith;
-      deep = long;
-      chain = λ m h. let c = v.chain m h in chain_new h cur d k here c.deep c.way long s some free (omega arith) (inr o.0);
-    })
-    (λ (o : Bare t cur (32 * cur + (2 * k + 1)) × (place' ≡ place) × (left' ≡ left + 1) × (free' ≡ set free left (get_or t (32 * cur + (2 * k + 1)) 0))).
-    let e₁ = o.1 in
-    let e₂ = o.2 in
-    let e₃ = o.3 in
-    rw (e, e₁, e₂, e₃)
-    record {
-      here = below;
-      low = v.low;
-      some = omega arith;
-      few = omega arith;
-      deep = long;
-      chain = λ m h. let c = v.chain m h in chain_on h cur d k here c.deep c.way long s some place free left room o.0 c;
-    })
-    how
+pub going_start : (w l x nodes : ℕ) (t : List ℕ) (cur place : ℕ) (free : List ℕ) (left : ℕ) → 0 < nodes → cur ≡ 0 → left ≡ 0 → Going w l x nodes t 0 x cur place free left
+going_start w l x nodes t cur place free left some root none = record { here = omega arith; few = omega arith; stands = inl (refl, refl, root) }
 
--- so a walk in a right row never breaks off
-pub never_start :
-    (w l x nodes : ℕ) (t : List ℕ) (k : ℕ) → 4 ≤ w → 4 < l → l ≤ w → k ≡ x / 2 ^ (w - 4) → k < 16
-    → (get_or t (2 * k + 1) 0 ≡ 0) ⊎ (nodes ≤ get_or t (2 * k + 1) 0)
-    → (m : Hops) → Held w (local m) (Along m l (first w l x) ((l - 1) / 4)) t nodes → ⊥
-never_start w l x nodes t k wide long short is small off m h =
-    let fits : first w l x < 2 ^ l = prefix_fits w l x wide short (omega arith) in
-    let e : 32 * 0 + (2 * k + 1) ≡ 2 * k + 1 = omega arith in
-    let y = way_there h 0 0 k h.shape.root h.shape.top.0 (root_way h (omega arith) fits) (omega arith) (omega arith) (root_step w l x k (omega arith) short is small) in
-    let z = rw e at y in
-    ⊎_elim z.0 (λ (o : nodes ≤ get_or t (2 * k + 1) 0). omega (arith, z.1)) off
+pub going_there :
+    {w l x nodes : ℕ} {t : List ℕ} {d y cur place : ℕ} {free : List ℕ} {left : ℕ} → Going w l x nodes t d y cur place free left → 0 < d
+    → Walked w l x nodes t d cur place free left
+going_there {w} {l} {x} {nodes} {t} {d} {y} {cur} {place} {free} {left} g some =
+    ⊎_elim (λ (e : (d ≡ 0) × (y ≡ x) × (cur ≡ 0)). absurd (omega (arith, e.0)))
+    (λ (v : Rest w d x y × Walked w l x nodes t d cur place free left). v.1) g.stands
 
-pub never_on :
-    (w l x nodes : ℕ) (t : List ℕ) (d cur place : ℕ) (free : List ℕ) (left y k : ℕ) → Walked w l x nodes t d cur place free left → Rest w d x y
-    → 4 * (d + 1) < l → l ≤ w → k ≡ y / 2 ^ (w - 4)
-    → (get_or t (32 * cur + (2 * k + 1)) 0 ≡ 0) ⊎ (nodes ≤ get_or t (32 * cur + (2 * k + 1)) 0)
-    → (m : Hops) → Held w (local m) (Along m l (first w l x) ((l - 1) / 4)) t nodes → ⊥
-never_on w l x nodes t d cur place free left y k v rest long short is off m h =
-    let c = v.chain m h in
-    let z = way_there h cur d k v.here c.deep c.way long (omega arith) (next_step w l d x y k rest (omega arith) short is) in
-    ⊎_elim z.0 (λ (o : nodes ≤ get_or t (32 * cur + (2 * k + 1)) 0). omega (arith, z.1)) off
+module _ {w l x nodes : ℕ} {t : List ℕ} {d y cur place : ℕ} {free : List ℕ} {left : ℕ} (g : Going w l x nodes t d y cur place free left) (k : ℕ)
+    (wide : 4 ≤ w) (short : l ≤ w) (long : 4 * (d + 1) < l) (is : k ≡ y / 2 ^ (w - 4)) (small : k < 16) where
+  on_way : (m : Hops) (h : WithWay w l x m t nodes) → (h.depth cur ≡ d) × Way l (first w l x) d (h.path cur)
+  on_way m h =
+      ⊎_elim
+      (λ (e : (d ≡ 0) × (y ≡ x) × (cur ≡ 0)).
+      let low : y / 2 ^ (w - 4) < 16 = subst (λ (n : ℕ). n < 16) is small in
+      let fits : first w l x < 2 ^ l = prefix_fits w l x wide short (subst (λ (n : ℕ). n / 2 ^ (w - 4) < 16) e.1 low) in
+      (ap h.depth e.2 ∙ h.shape.top.0 ∙ sym e.0, carry (Way l (first w l x)) (sym e.0) (ap h.path (sym e.2)) (root_way h (omega arith) fits)))
+      (λ (v : Rest w d x y × Walked w l x nodes t d cur place free left). let c = v.1.chain m h in (c.deep, c.way)) g.stands
+
+  is_step : k ≡ step l (first w l x) d
+  is_step =
+      ⊎_elim
+      (λ (e : (d ≡ 0) × (y ≡ x) × (cur ≡ 0)).
+      let s : k ≡ x / 2 ^ (w - 4) = is ∙ ap (λ (n : ℕ). n / 2 ^ (w - 4)) e.1 in rw e.0 (root_step w l x k (omega arith) short s small))
+      (λ (v : Rest w d x y × Walked w l x nodes t d cur place free left). next_step w l d x y k v.0 (omega arith) short is) g.stands
+
+  rest_on : Rest w (d + 1) x (rest_of w y)
+  rest_on =
+      ⊎_elim (λ (e : (d ≡ 0) × (y ≡ x) × (cur ≡ 0)). rw (e.0, e.1) (rest_start w x))
+      (λ (v : Rest w d x y × Walked w l x nodes t d cur place free left). rest_more w d x y v.0) g.stands
+
+  -- where nothing would be free the node is the root
+  anew : (left ≡ 0) ⊎ Stays t cur (32 * cur + (2 * k + 1)) → (d ≡ 0) ⊎ Stays t cur (32 * cur + (2 * k + 1))
+  anew =
+      ⊎_elim
+      (λ (z : left ≡ 0).
+      ⊎_elim (λ (e : (d ≡ 0) × (y ≡ x) × (cur ≡ 0)). inl e.0)
+      (λ (v : Rest w d x y × Walked w l x nodes t d cur place free left). let s = v.1.some in absurd (omega arith)) g.stands)
+      (λ (s : Stays t cur (32 * cur + (2 * k + 1))). inr s)
+
+  -- a step leads on
+  walked_on :
+      (cur' place' : ℕ) (free' : List ℕ) (left' : ℕ)
+      → Stepped t nodes cur (32 * cur + (2 * k + 1)) place free left cur' place' free' left' → Walked w l x nodes t (d + 1) cur' place' free' left'
+  walked_on cur' place' free' left' s =
+      let e = s.next in
+      let below = s.below in
+      let room = s.room in
+      let here = g.here in
+      ⊎_elim
+      (λ (o : ((left ≡ 0) ⊎ Stays t cur (32 * cur + (2 * k + 1))) × (place' ≡ 32 * cur + (2 * k + 1)) × (left' ≡ 1) × (free' ≡ set free 0 cur')).
+      let e₁ = o.1 in
+      let e₂ = o.2 in
+      let e₃ = o.3 in
+      rw (e₁, e₂, e₃, e)
+      record {
+        here = below;
+        low = omega arith;
+        some = omega arith;
+        few = omega arith;
+        deep = long;
+        chain = λ m h. let c = on_way m h in chain_new h cur d k here c.0 c.1 long is_step s.some free (omega arith) (anew o.0);
+      })
+      (λ (o : (0 < left) × Bare t cur (32 * cur + (2 * k + 1)) × (place' ≡ place) × (left' ≡ left + 1) × (free' ≡ set free left cur')).
+      let few = g.few in
+      let v = going_there g (omega (arith, o.0)) in
+      let e₁ = o.2 in
+      let e₂ = o.3 in
+      let e₃ = o.4 in
+      rw (e₁, e₂, e₃, e)
+      record {
+        here = below;
+        low = v.low;
+        some = omega arith;
+        few = omega arith;
+        deep = long;
+        chain = λ m h. let c = v.chain m h in chain_on h cur d k here c.deep c.way long is_step s.some place free left room o.1 c;
+      })
+      s.how
+
+  pub going_on :
+      (cur' place' : ℕ) (free' : List ℕ) (left' : ℕ)
+      → Stepped t nodes cur (32 * cur + (2 * k + 1)) place free left cur' place' free' left' → Going w l x nodes t (d + 1) (rest_of w y) cur' place' free' left'
+  going_on cur' place' free' left' s =
+      let v = walked_on cur' place' free' left' s in
+      record { here = v.here; few = v.few; stands = inr (rest_on, v) }
+
+  -- and in a right row none breaks off
+  pub going_never :
+      (get_or t (32 * cur + (2 * k + 1)) 0 ≡ 0) ⊎ (nodes ≤ get_or t (32 * cur + (2 * k + 1)) 0) → (m : Hops) → WithWay w l x m t nodes → ⊥
+  going_never off m h =
+      let c = on_way m h in
+      let z = way_there h cur d k g.here c.0 c.1 long (omega arith) is_step in
+      ⊎_elim z.0 (λ (o : nodes ≤ get_or t (32 * cur + (2 * k + 1)) 0). omega (arith, z.1)) off

@@ -1,5 +1,5 @@
 -- A walk down the way to a prefix, and the nodes at its end that would be free: for the proof of the walk. Assumes nothing: these are definitions.
-use Rattle.std.specs.Prelude.{◌≡◌, ℕ, ◌+◌, ◌*◌, ◌%◌, ◌^◌, ◌<◌, ◌≤◌, ◌≢◌, ◌⊎◌, List, slice_index, slice_index_or}
+use Rattle.std.specs.Prelude.{◌≡◌, ℕ, ◌+◌, ◌*◌, ◌%◌, ◌^◌, ◌<◌, ◌≤◌, ◌≢◌, ◌⊎◌, List, length, slice_index, slice_index_or, slice_set}
 use Rattle.prefix.specs.Routes.{first}
 use Rattle.prefix.specs.Map.{Hops}
 use Rattle.trie.specs.Shape.{local, Deeper, Held}
@@ -48,6 +48,18 @@ pub record Walked (w l x nodes : ℕ) (t : List ℕ) (d cur place : ℕ) (free :
   pub few : left ≤ d
   pub deep : 4 * d < l
   pub chain : (m : Hops) (h : WithWay w l x m t nodes) → Chain h d cur place free left
+
+-- one step of a walk, from node cur by the cell at `at`
+pub record Stepped (t : List ℕ) (nodes cur at place : ℕ) (free : List ℕ) (left cur' place' : ℕ) (free' : List ℕ) (left' : ℕ) : Type 0 where
+  pub room : left < length free
+  pub some : slice_index t at ≢ 0
+  pub below : slice_index t at < nodes
+  pub next : cur' ≡ slice_index t at
+  -- what would be free begins anew, with the next node: cur stays, or it is the root and nothing would be free
+  -- or the next is one more
+  pub how :
+      (((left ≡ 0) ⊎ Stays t cur at) × (place' ≡ at) × (left' ≡ 1) × (free' ≡ slice_set free 0 cur'))
+      ⊎ ((0 < left) × Bare t cur at × (place' ≡ place) × (left' ≡ left + 1) × (free' ≡ slice_set free left cur'))
 
 -- the key y is what is left of x behind d nibbles
 abbrev pub Rest : (w d x y : ℕ) → Type 0

@@ -9,11 +9,13 @@ ghost use Rattle.prune.specs.Free.{WithWay, Needed};
 
 use prefix::{Key, Prefix};
 
+mod freed;
 mod hints;
 pub mod laws;
 mod moves;
 mod ways;
 
+pub use freed::Free;
 pub use moves::close_up;
 pub use ways::cut_off;
 
@@ -22,14 +24,10 @@ pub fn prune<K: Key>(nodes: &mut [u32], count: u32, hints: usize, prefix: Prefix
     ensures right { elim result [ Some c ↦ ((m : Hops) → WithWay (width K.Key.words) prefix.len (K.Key.num prefix.bits) m nodes.old count → TrieOf (width K.Key.words) m nodes.new c × (c ≤ count)) | None ↦ Unit ] }
     ensures kept { (m : Hops) → WithWay (width K.Key.words) prefix.len (K.Key.num prefix.bits) m nodes.old count → prefix.len ≤ width K.Key.words → Needed (width K.Key.words) prefix.len (K.Key.num prefix.bits) m → (result ≡ Some count) × (nodes.new ≡ nodes.old) }
 {
-    let mut free = [0; 32];
-    match cut_off(nodes, count, prefix, &mut free) {
-        None => None,
-        Some(left) => {
-            if left == 0 {
-                return Some(count);
-            }
-            close_up(nodes, count, hints, &mut free, left)
-        }
+    let mut free = cut_off(nodes, count, prefix)?;
+    let left = free.left;
+    if left == 0 {
+        return Some(count);
     }
+    close_up(nodes, count, hints, &mut free.numbers[..left])
 }

@@ -1,120 +1,100 @@
 // The way to a prefix gone down, and the nodes at its end that have become empty cut off by one write: what hangs beneath the cell is free from then on.
-ghost use Rattle.std.specs.Prelude.{◌≡◌, ℕ, ◌+◌, ◌-◌, ◌*◌, ◌/◌, ◌<◌, ◌≤◌, ◌≢◌, ◌⊎◌, length, Some, None, slice_index, slice_set};
+ghost use Rattle.std.specs.Prelude.{◌≡◌, ℕ, ◌+◌, ◌-◌, ◌*◌, ◌/◌, ◌<◌, ◌≤◌, ◌⊎◌, length, MatchOption, IfSome, MatchBool, slice_index};
 ghost use Rattle.prefix.specs.Words.{width};
 ghost use Rattle.prefix.specs.Map.{Hops};
 ghost use Rattle.prune.specs.Free.{Partly, WithWay, Needed};
-ghost use Rattle.prune.specs.Walk.{Stays, Bare, Walked};
+ghost use Rattle.prune.specs.Walk.{Stays, Bare, Stepped, Walked};
 
+use crate::freed::Free;
 use prefix::{Key, Prefix};
 
-// Where a way stands: its last node, and the cell above the nodes that would be free if that one were empty.
-#[derive(Clone, Copy)]
-pub struct End {
-    last: u32,
-    place: usize,
-    left: usize,
-}
-
-// Which number of a node is not 0, beside that at one place; or 32.
-fn used_number(nodes: &[u32], node: u32, place: usize) -> usize
-    requires { 32 * node + 32 ≤ length nodes.now }
-    ensures most { result ≤ 32 }
-    ensures none { (y : ℕ) → y < result → 32 * node + y ≢ place → slice_index nodes.now (32 * node + y) ≡ 0 }
-    ensures some { result < 32 → (32 * node + result ≢ place) × (slice_index nodes.now (32 * node + result) ≢ 0) }
+// Cuts the empty nodes off the way to a prefix, and answers their numbers, which are to be closed up. None where the row is not right.
+pub fn cut_off<K: Key>(nodes: &mut [u32], count: u32, prefix: Prefix<K>) -> Option<Free>
+    ensures right { IfSome result (λ f. (m : Hops) → WithWay (width K.Key.words) prefix.len (K.Key.num prefix.bits) m nodes.old count → Partly (width K.Key.words) m nodes.new count f.numbers f.left) }
+    ensures kept { (m : Hops) → WithWay (width K.Key.words) prefix.len (K.Key.num prefix.bits) m nodes.old count → prefix.len ≤ width K.Key.words → Needed (width K.Key.words) prefix.len (K.Key.num prefix.bits) m → MatchOption result ⊥ (λ f. f.left ≡ 0) × (nodes.new ≡ nodes.old) }
 {
-    let from = 32 * node as usize;
-    let mut y = 0;
-    while y < 32 && (from + y == place || nodes[from + y] == 0) {
-        y += 1;
+    if count == 0 || count as usize > nodes.len() / 32 || prefix.len > 32 * K::words() as u32 {
+        return None;
     }
-    y
-}
-
-// The way goes on from its last node by the cell at `place`: where that node stays, the nodes that may be free begin anew beneath it.
-fn extended(nodes: &[u32], end: End, place: usize, next: u32, free: &mut [u32]) -> End
-    requires long { 32 * end.last + 32 ≤ length nodes.now }
-    requires room { end.left < length free.old }
-    ensures last { result.last ≡ next }
-    ensures how { (Stays nodes.now end.last place × (result.place ≡ place) × (result.left ≡ 1) × (free.new ≡ slice_set free.old 0 next)) ⊎ (Bare nodes.now end.last place × (result.place ≡ end.place) × (result.left ≡ end.left + 1) × (free.new ≡ slice_set free.old end.left next)) }
-{
-    if used_number(nodes, end.last, place) < 32 {
-        free[0] = next;
-        return End {
-            last: next,
-            place,
-            left: 1,
-        };
+    if prefix.len <= 4 {
+        return Some(Free::none());
     }
-    free[end.left] = next;
-    End {
-        last: next,
-        place: end.place,
-        left: end.left + 1,
+    let end = walk(nodes, count, prefix)?;
+    // No place is left out, since none is so high: the last node may have any number.
+    if stays(nodes, end.last, nodes.len()) {
+        return Some(Free::none());
     }
+    nodes[end.place] = 0;
+    Some(end.free)
 }
 
 // Goes down to the last node of the way; None where the row is not right.
-fn walk<K: Key>(nodes: &[u32], count: u32, prefix: Prefix<K>, free: &mut [u32]) -> Option<End>
+fn walk<K: Key>(nodes: &[u32], count: u32, prefix: Prefix<K>) -> Option<End>
     requires long { 32 * count ≤ length nodes.now }
     requires some { 0 < count }
     requires deep { 4 < prefix.len }
     requires short { prefix.len ≤ width K.Key.words }
-    requires room { 32 ≤ length free.old }
-    ensures { elim result [ Some e ↦ Walked (width K.Key.words) prefix.len (K.Key.num prefix.bits) count nodes.now ((prefix.len - 1) / 4) e.last e.place free.new e.left | None ↦ ((m : Hops) → WithWay (width K.Key.words) prefix.len (K.Key.num prefix.bits) m nodes.now count → ⊥) ] }
+    ensures { MatchOption result ((m : Hops) → WithWay (width K.Key.words) prefix.len (K.Key.num prefix.bits) m nodes.now count → ⊥) (λ e. Walked (width K.Key.words) prefix.len (K.Key.num prefix.bits) count nodes.now ((prefix.len - 1) / 4) e.last e.place e.free.numbers e.free.left) }
 {
-    let place = 2 * prefix.bits.nibble() as usize + 1;
-    let next = nodes[place];
-    if next == 0 || next >= count {
-        return None;
-    }
-    free[0] = next;
-    let mut end = End {
-        last: next,
-        place,
-        left: 1,
-    };
-    let mut rest = prefix.bits.rest();
-    let mut d = 1;
-    while 4 * (d + 1) < prefix.len {
-        let place = 32 * end.last as usize + (2 * rest.nibble() as usize + 1);
-        let next = nodes[place];
-        if next == 0 || next >= count {
-            return None;
-        }
-        end = extended(nodes, end, place, next, free);
+    let mut end = End::root();
+    let mut rest = prefix.bits;
+    let mut len = prefix.len;
+    while len > 4 {
+        end.go_on(nodes, count, rest.nibble())?;
         rest = rest.rest();
-        d += 1;
+        len -= 4;
     }
     Some(end)
 }
 
-// Cuts the empty nodes off the way to a prefix, and answers how many there are: their numbers stand first in `free`, and are to be closed up. None where the row is not right.
-pub fn cut_off<K: Key>(
-    nodes: &mut [u32],
-    count: u32,
-    prefix: Prefix<K>,
-    free: &mut [u32],
-) -> Option<usize>
-    ensures right { elim result [ Some n ↦ ((m : Hops) → WithWay (width K.Key.words) prefix.len (K.Key.num prefix.bits) m nodes.old count → Partly (width K.Key.words) m nodes.new count free.new n) | None ↦ Unit ] }
-    ensures kept { (m : Hops) → WithWay (width K.Key.words) prefix.len (K.Key.num prefix.bits) m nodes.old count → prefix.len ≤ width K.Key.words → 32 ≤ length free.old → Needed (width K.Key.words) prefix.len (K.Key.num prefix.bits) m → (result ≡ Some 0) × (nodes.new ≡ nodes.old) }
-{
-    if count == 0 || count as usize > nodes.len() / 32 || free.len() < 32 {
-        return None;
-    }
-    if prefix.len > 32 * K::words() as u32 {
-        return None;
-    }
-    if prefix.len <= 4 {
-        return Some(0);
-    }
-    match walk(nodes, count, prefix, free) {
-        None => None,
-        Some(end) => {
-            if used_number(nodes, end.last, nodes.len()) < 32 {
-                return Some(0);
-            }
-            nodes[end.place] = 0;
-            Some(end.left)
+// Where a way stands: its last node, the nodes that would be free if that one were empty, and the cell above them.
+#[derive(Clone, Copy)]
+struct End {
+    last: u32,
+    free: Free,
+    place: usize,
+}
+
+impl End {
+    // At the root, which is never free.
+    fn root() -> End
+        ensures last { result.last ≡ 0 }
+        ensures none { result.free.left ≡ 0 }
+    {
+        End {
+            last: 0,
+            free: Free::none(),
+            place: 0,
         }
     }
+
+    // Goes on to the node that a cell of the last one names, or answers None where it names none. Where the last node stays, the nodes that would be free begin anew beneath it.
+    fn go_on(&mut self, nodes: &[u32], count: u32, nibble: u32) -> Option<()>
+        requires inside { 32 * self.old.last + 32 ≤ length nodes.now }
+        requires small { nibble < 16 }
+        requires room { self.old.free.left < 32 }
+        ensures { let at = 32 * self.old.last + (2 * nibble + 1) in MatchOption result ((slice_index nodes.now at ≡ 0) ⊎ (count ≤ slice_index nodes.now at)) (λ _. Stepped nodes.now count self.old.last at self.old.place self.old.free.numbers self.old.free.left self.new.last self.new.place self.new.free.numbers self.new.free.left) }
+    {
+        let at = 32 * self.last as usize + (2 * nibble as usize + 1);
+        let next = nodes[at];
+        if next == 0 || next >= count {
+            return None;
+        }
+        if self.free.left == 0 || stays(nodes, self.last, at) {
+            self.free.left = 0;
+            self.place = at;
+        }
+        self.free.push(next);
+        self.last = next;
+        Some(())
+    }
+}
+
+// Whether a number of a node is not 0, beside that at one place.
+fn stays(nodes: &[u32], node: u32, place: usize) -> bool
+    requires { 32 * node + 32 ≤ length nodes.now }
+    ensures { MatchBool result (Stays nodes.now node place) (Bare nodes.now node place) }
+{
+    let from = 32 * node as usize;
+    (from..from + 32).any(|at| at != place && nodes[at] != 0)
 }

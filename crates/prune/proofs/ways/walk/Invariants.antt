@@ -1,13 +1,13 @@
 -- The walk has come to depth d, and what is left of the key is behind d nibbles.
-use Rattle.std.proofs.Common.{◌-◌}
+use Rattle.std.proofs.Common.{◌≡◌, ℕ, ◌+◌, ◌*◌}
 use Rattle.prefix.specs.Words.{width}
-use Rattle.prune.specs.Walk.{Walked, Rest}
+use Rattle.prune.proofs.Walks.{Going}
 use Rattle.prune.proofs.ways.walk.Given as goal
 
-abbrev pub invariant-loop-d : goal.invariant-loop-d
-invariant-loop-d g l =
-    Rest (width g.K.Key.words) l.d (g.K.Key.num l.prefix.bits) (g.K.Key.num l.rest)
-    × Walked (width g.K.Key.words) l.prefix.len (g.K.Key.num l.prefix.bits) l.count l.nodes l.d l.end.last l.end.place l.free l.end.left
+abbrev pub invariant-loop-len : goal.invariant-loop-len
+invariant-loop-len g l =
+    (d : ℕ) × (4 * d + l.len ≡ l.fn.prefix.len)
+    × Going (width g.K.Key.words) l.fn.prefix.len (g.K.Key.num l.fn.prefix.bits) l.count l.nodes d (g.K.Key.num l.rest) l.end.last l.end.place l.end.free.numbers l.end.free.left
 
-abbrev pub decreases-loop-d : goal.decreases-loop-d
-decreases-loop-d g l = l.prefix.len - l.d
+abbrev pub decreases-loop-len : goal.decreases-loop-len
+decreases-loop-len g l = l.len
