@@ -7,14 +7,8 @@ pub(crate) fn hinted(nodes: &[u32], count: u32, hints: usize, node: u32) -> Opti
     requires { 32 * count ≤ length nodes.now }
     ensures { elim result [ Some p ↦ Names nodes.now count node p | None ↦ Unit ] }
 {
-    if hints >= nodes.len() || node as usize >= nodes.len() - hints {
-        return None;
-    }
-    let place = nodes[hints + node as usize] as usize;
-    if place % 2 == 0 || place >= 32 * count as usize {
-        return None;
-    }
-    if nodes[place] != node {
+    let place = *nodes.get(hints..)?.get(node as usize)? as usize;
+    if place % 2 == 0 || place >= 32 * count as usize || nodes[place] != node {
         return None;
     }
     Some(place)
@@ -24,11 +18,14 @@ pub(crate) fn hinted(nodes: &[u32], count: u32, hints: usize, node: u32) -> Opti
 fn set_hint(nodes: &mut [u32], count: u32, hints: usize, node: u32, place: usize)
     ensures { (x : ℕ) → x < 32 * count → slice_index nodes.new x ≡ slice_index nodes.old x }
 {
-    if hints < 32 * count as usize || hints >= nodes.len() {
+    let Ok(hint) = u32::try_from(place) else {
         return;
-    }
-    if (node as usize) < nodes.len() - hints && place <= 0xffff_ffff {
-        nodes[hints + node as usize] = place as u32;
+    };
+    if hints >= 32 * count as usize
+        && hints < nodes.len()
+        && (node as usize) < nodes.len() - hints
+    {
+        nodes[hints + node as usize] = hint;
     }
 }
 
@@ -38,8 +35,8 @@ pub(crate) fn set_children(nodes: &mut [u32], count: u32, hints: usize, node: u3
     requires here { node < count }
     ensures { (x : ℕ) → x < 32 * count → slice_index nodes.new x ≡ slice_index nodes.old x }
 {
-    for k in 0..16 {
-        let place = 32 * node as usize + (2 * k + 1);
+    let from = 32 * node as usize;
+    for place in (from + 1..from + 32).step_by(2) {
         let child = nodes[place];
         if child != 0 {
             set_hint(nodes, count, hints, child, place);

@@ -68,7 +68,7 @@ fn close_one(nodes: &mut [u32], count: u32, hints: usize, free: &mut [u32]) -> O
 pub fn close_up(nodes: &mut [u32], mut count: u32, hints: usize, free: &mut [u32]) -> Option<u32>
     ensures { IfSome result (λ n. (w : ℕ) (m : Hops) → Partly w m nodes.old count free.old (length free.old) → TrieOf w m nodes.new n × (n + length free.old ≡ count)) }
 {
-    if count as usize > nodes.len() / 32 || free.len() > count as usize {
+    if nodes.len() < 32 * count as usize || free.len() > count as usize {
         return None;
     }
     // Hints stand behind all nodes, those that are vacated too: a reader may still go on in one.

@@ -13,7 +13,7 @@ pub fn cut_off<K: Key>(nodes: &mut [u32], count: u32, prefix: Prefix<K>) -> Opti
     ensures right { IfSome result (λ f. (m : Hops) → WithWay (width K.Key.words) prefix.len (K.Key.num prefix.bits) m nodes.old count → Partly (width K.Key.words) m nodes.new count f.numbers f.left) }
     ensures kept { (m : Hops) → WithWay (width K.Key.words) prefix.len (K.Key.num prefix.bits) m nodes.old count → prefix.len ≤ width K.Key.words → Needed (width K.Key.words) prefix.len (K.Key.num prefix.bits) m → MatchOption result ⊥ (λ f. f.left ≡ 0) × (nodes.new ≡ nodes.old) }
 {
-    if count == 0 || count as usize > nodes.len() / 32 || prefix.len > 32 * K::words() as u32 {
+    if count == 0 || nodes.len() < 32 * count as usize || prefix.len > 32 * K::words() as u32 {
         return None;
     }
     if prefix.len <= 4 {
