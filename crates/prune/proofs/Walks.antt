@@ -172,9 +172,6 @@ pub record Going (w l x nodes : ℕ) (t : List ℕ) (d y cur place : ℕ) (free 
   pub few : left ≤ d
   pub stands : ((d ≡ 0) × (y ≡ x) × (cur ≡ 0)) ⊎ (Rest w d x y × Walked w l x nodes t d cur place free left)
 
-pub going_start : (w l x nodes : ℕ) (t : List ℕ) (cur place : ℕ) (free : List ℕ) (left : ℕ) → 0 < nodes → cur ≡ 0 → left ≡ 0 → Going w l x nodes t 0 x cur place free left
-going_start w l x nodes t cur place free left some root none = record { here = omega arith; few = omega arith; stands = inl (refl, refl, root) }
-
 pub going_there :
     {w l x nodes : ℕ} {t : List ℕ} {d y cur place : ℕ} {free : List ℕ} {left : ℕ} → Going w l x nodes t d y cur place free left → 0 < d
     → Walked w l x nodes t d cur place free left

@@ -1,5 +1,5 @@
 -- What is cut off is closed up.
-use Rattle.std.proofs.Common.{ℕ, Some, None, Option, IfSome, refl, arith}
+use Rattle.std.proofs.Common.{ℕ, Some, None, Option, IfSome, arith}
 use Rattle.prefix.specs.Words.{width}
 use Rattle.prune.proofs.Holes.{part_lent, closed}
 use Rattle.prune.proofs.prune.Goals as goal
@@ -9,19 +9,12 @@ after : (r : Option ℕ) (P Q : ℕ → Type 0) → ((n : ℕ) → P n → Q n) 
 after (Some n) P Q f p = f n p
 after None P Q f p = tt
 
-pub returns-then-left-eq0 : goal.returns-then-left-eq0
-returns-then-left-eq0 g c =
-    record {
-      right = λ m h. (closed c.args.count c.in_ok-free.free.numbers c.in_ok-free.free.left c.if-left-eq0.true (omega (arith, h.fits)) (c.in_ok-free.ensures.right m h), omega arith);
-      kept = λ m h a o. (refl, (c.in_ok-free.ensures.kept m h a o).1);
-    }
+pub returns-then-left-eq0-clause-right : goal.returns-then-left-eq0-clause-right
+returns-then-left-eq0-clause-right g c m h =
+    (closed c.args.count c.in_ok-free.free.numbers c.in_ok-free.free.left c.if-left-eq0.true (omega (arith, h.fits)) (c.in_ok-free.ensures.right m h), omega arith)
 
-pub returns : goal.returns
-returns g c =
-    record {
-      right =
-          after c.close_up.result _ _
-          (λ n p m h. let y = p (width g.K.Key.words) m (part_lent c.args.count c.in_ok-free.free.numbers c.in_ok-free.free.left (omega arith) (c.in_ok-free.ensures.right m h)) in (y.0, omega (arith, y.1)))
-          c.close_up.ensures;
-      kept = λ m h a o. absurd (c.if-left-eq0.false (c.in_ok-free.ensures.kept m h a o).0);
-    }
+pub returns-clause-right : goal.returns-clause-right
+returns-clause-right g c =
+    after c.close_up.result _ _
+    (λ n p m h. let y = p (width g.K.Key.words) m (part_lent c.args.count c.in_ok-free.free.numbers c.in_ok-free.free.left (omega arith) (c.in_ok-free.ensures.right m h)) in (y.0, omega (arith, y.1)))
+    c.close_up.ensures

@@ -2,11 +2,8 @@
 use Rattle.std.proofs.Common.{◌≡◌, ℕ, ◌+◌, ◌-◌, ◌*◌, ◌/◌, subst, arith}
 use Rattle.prefix.specs.Words.{width}
 use Rattle.prune.specs.Walk.{Walked}
-use Rattle.prune.proofs.Walks.{going_start, going_there, going_on, going_never}
+use Rattle.prune.proofs.Walks.{going_there, going_on, going_never}
 use Rattle.prune.proofs.ways.walk.Goals as goal
-
-pub loop-len-init : goal.loop-len-init
-loop-len-init g c = (0, omega arith, going_start _ _ _ _ _ _ _ _ _ c.requires.some c.root-end.ensures.last c.root-end.ensures.none)
 
 pub returns-in_err-go_on : goal.returns-in_err-go_on
 returns-in_err-go_on g c =
