@@ -32,12 +32,6 @@ none_free {depth = depth} {path = path} free left none s =
       loose = record { depth = depth; path = path; shape = same_live s (λ a l. record { below = l; off = λ p z. absurd (omega arith) }) (λ a u. u.below) };
     }
 
--- only the root is on the way
-pub short_way : {w : ℕ} {m : Hops} {l q top nodes : ℕ} {t : List ℕ} (free : List ℕ) (left : ℕ) → left ≡ 0 → top ≡ 0 → Held w (local m) (Along m l q top) t nodes
-    → Partly w m t nodes free left
-short_way {w} {m} {l} {q} {nodes = nodes} {t = t} free left none e h =
-    none_free free left none (remove_all m l q 0 (subst (λ (x : ℕ). Shape w (local m) (Along m l q x) (said t) (goes t) (λ i. i < nodes) h.depth h.path) e h.shape))
-
 module _ {w : ℕ} {m : Hops} {l q top nodes : ℕ} {t : List ℕ} (h : Held w (local m) (Along m l q top) t nodes) {cur place : ℕ} {free : List ℕ} {left : ℕ}
     (c : Chain h top cur place free left) (here : cur < nodes) where
   -- the last node is not empty

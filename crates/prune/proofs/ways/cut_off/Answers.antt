@@ -1,10 +1,7 @@
 -- Only the root is on the way, or the last node is not empty, or the nodes that are empty are cut off.
 use Rattle.std.proofs.Common.{arith}
-use Rattle.prune.proofs.Cuts.{short_way, kept_way, cut_way, needless}
+use Rattle.prune.proofs.Cuts.{kept_way, cut_way, needless}
 use Rattle.prune.proofs.ways.cut_off.Goals as goal
-
-pub returns-then-prefix-le4-clause-right : goal.returns-then-prefix-le4-clause-right
-returns-then-prefix-le4-clause-right g c m h = short_way c.none.result.numbers c.none.result.left c.none.ensures (omega arith) h
 
 pub returns-then-stays-clause-right : goal.returns-then-stays-clause-right
 returns-then-stays-clause-right g c m h =
