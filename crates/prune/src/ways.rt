@@ -19,32 +19,14 @@ pub fn cut_off<K: Key>(nodes: &mut [u32], count: u32, prefix: Prefix<K>) -> Opti
     if prefix.len <= 4 {
         return Some(Free::none());
     }
-    let end = walk(nodes, count, prefix)?;
+    let mut end = End::root();
+    end.go_down(nodes, count, prefix)?;
     // No place is left out, since none is so high: the last node may have any number.
     if stays(nodes, end.last, nodes.len()) {
         return Some(Free::none());
     }
     nodes[end.place] = 0;
     Some(end.free)
-}
-
-// Goes down to the last node of the way; None where the row is not right.
-fn walk<K: Key>(nodes: &[u32], count: u32, prefix: Prefix<K>) -> Option<End>
-    requires long { 32 * count ≤ length nodes.now }
-    requires some { 0 < count }
-    requires deep { 4 < prefix.len }
-    requires short { prefix.len ≤ width K.Key.words }
-    ensures { MatchOption result ((m : Hops) → WithWay (width K.Key.words) prefix.len (K.Key.num prefix.bits) m nodes.now count → ⊥) (λ e. Walked (width K.Key.words) prefix.len (K.Key.num prefix.bits) count nodes.now ((prefix.len - 1) / 4) e.last e.place e.free.numbers e.free.left) }
-{
-    let mut end = End::root();
-    let mut rest = prefix.bits;
-    let mut len = prefix.len;
-    while len > 4 {
-        end.go_on(nodes, count, rest.nibble())?;
-        rest = rest.rest();
-        len -= 4;
-    }
-    Some(end)
 }
 
 // Where a way stands: its last node, the nodes that would be free if that one were empty, and the cell above them.
@@ -66,6 +48,26 @@ impl End {
             free: Free::none(),
             place: 0,
         }
+    }
+
+    // Goes down from the root to the last node of the way to a prefix; None where the row is not right.
+    fn go_down<K: Key>(&mut self, nodes: &[u32], count: u32, prefix: Prefix<K>) -> Option<()>
+        requires root { self.old.last ≡ 0 }
+        requires none { self.old.free.left ≡ 0 }
+        requires long { 32 * count ≤ length nodes.now }
+        requires some { 0 < count }
+        requires deep { 4 < prefix.len }
+        requires short { prefix.len ≤ width K.Key.words }
+        ensures { MatchOption result ((m : Hops) → WithWay (width K.Key.words) prefix.len (K.Key.num prefix.bits) m nodes.now count → ⊥) (λ _. Walked (width K.Key.words) prefix.len (K.Key.num prefix.bits) count nodes.now ((prefix.len - 1) / 4) self.new.last self.new.place self.new.free.numbers self.new.free.left) }
+    {
+        let mut rest = prefix.bits;
+        let mut len = prefix.len;
+        while len > 4 {
+            self.go_on(nodes, count, rest.nibble())?;
+            rest = rest.rest();
+            len -= 4;
+        }
+        Some(())
     }
 
     // Goes on to the node that a cell of the last one names, or answers None where it names none. Where the last node stays, the nodes that would be free begin anew beneath it.

@@ -3,7 +3,7 @@ use Rattle.std.proofs.Common.{◌≡◌, ℕ, ◌+◌, ◌-◌, ◌*◌, ◌/◌
 use Rattle.prefix.specs.Words.{width}
 use Rattle.prune.specs.Walk.{Walked}
 use Rattle.prune.proofs.Walks.{going_there, going_on, going_never}
-use Rattle.prune.proofs.ways.walk.Goals as goal
+use Rattle.prune.proofs.ways.End.go_down.Goals as goal
 
 pub returns-in_err-go_on : goal.returns-in_err-go_on
 returns-in_err-go_on g c =
@@ -33,5 +33,5 @@ returns g c =
     let deep = v.deep in
     let e : d ≡ (c.args.prefix.len - 1) / 4 = omega arith in
     subst
-    (λ (n : ℕ). Walked (width g.K.Key.words) c.args.prefix.len (g.K.Key.num c.args.prefix.bits) c.args.count c.args.nodes.now n c.loop-len.end.last c.loop-len.end.place c.loop-len.end.free.numbers c.loop-len.end.free.left)
+    (λ (n : ℕ). Walked (width g.K.Key.words) c.args.prefix.len (g.K.Key.num c.args.prefix.bits) c.args.count c.args.nodes.now n c.loop-len.self.last c.loop-len.self.place c.loop-len.self.free.numbers c.loop-len.self.free.left)
     e v
