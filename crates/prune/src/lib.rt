@@ -24,10 +24,9 @@ pub fn prune<K: Key>(nodes: &mut [u32], count: u32, hints: usize, prefix: Prefix
     ensures right { elim result [ Some c ↦ ((m : Hops) → WithWay (width K.Key.words) prefix.len (K.Key.num prefix.bits) m nodes.old count → TrieOf (width K.Key.words) m nodes.new c × (c ≤ count)) | None ↦ Unit ] }
     ensures kept { (m : Hops) → WithWay (width K.Key.words) prefix.len (K.Key.num prefix.bits) m nodes.old count → prefix.len ≤ width K.Key.words → Needed (width K.Key.words) prefix.len (K.Key.num prefix.bits) m → (result ≡ Some count) × (nodes.new ≡ nodes.old) }
 {
-    let mut free = cut_off(nodes, count, prefix)?;
-    let left = free.left;
+    let Free { mut numbers, left } = cut_off(nodes, count, prefix)?;
     if left == 0 {
         return Some(count);
     }
-    close_up(nodes, count, hints, &mut free.numbers[..left])
+    close_up(nodes, count, hints, &mut numbers[..left])
 }
