@@ -49,14 +49,13 @@ pub record Walked (w l x nodes : ℕ) (t : List ℕ) (d cur place : ℕ) (free :
   pub deep : 4 * d < l
   pub chain : (m : Hops) (h : WithWay w l x m t nodes) → Chain h d cur place free left
 
--- one step of a walk, from node cur by the cell at `at`
+-- one step of a walk, from node cur to the node that the cell at `at` names
 pub record Stepped (t : List ℕ) (nodes cur at place : ℕ) (free : List ℕ) (left cur' place' : ℕ) (free' : List ℕ) (left' : ℕ) : Type 0 where
   pub room : left < length free
   pub some : slice_index t at ≢ 0
   pub below : slice_index t at < nodes
   pub next : cur' ≡ slice_index t at
-  -- what would be free begins anew, with the next node: cur stays, or it is the root and nothing would be free
-  -- or the next is one more
+  -- where cur is the root or stays, the nodes that would be free begin anew beneath that cell; else the next is one more of them
   pub how :
       (((left ≡ 0) ⊎ Stays t cur at) × (place' ≡ at) × (left' ≡ 1) × (free' ≡ slice_set free 0 cur'))
       ⊎ ((0 < left) × Bare t cur at × (place' ≡ place) × (left' ≡ left + 1) × (free' ≡ slice_set free left cur'))

@@ -6,7 +6,7 @@ ghost use Rattle.std.specs.Prelude.{◌≡◌, ◌+◌, ◌<◌, ◌≤◌, slic
 pub struct Free {
     pub numbers: [u32; 32],
     pub left: usize,
-    ghost few: { left ≤ 32 },
+    pub ghost few: { left ≤ 32 },
 }
 
 impl Free {

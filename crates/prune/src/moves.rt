@@ -7,38 +7,22 @@ ghost use Rattle.prune.specs.Free.{Used, Loose, Partly};
 
 use crate::hints::{hinted, set_moved};
 
-// Where a node stands among the free numbers.
-fn place_of(free: &[u32], node: u32) -> Option<usize>
-    ensures { MatchOption result ((p : ℕ) → p < length free.now → slice_index free.now p ≢ node) (λ p. (p < length free.now) × (slice_index free.now p ≡ node)) }
+// Closes all holes, and answers how many nodes are left; None where a hint fails.
+pub fn close_up(nodes: &mut [u32], mut count: u32, hints: usize, free: &mut [u32]) -> Option<u32>
+    ensures { IfSome result (λ n. (w : ℕ) (m : Hops) → Partly w m nodes.old count free.old (length free.old) → TrieOf w m nodes.new n × (n + length free.old ≡ count)) }
 {
-    free.iter().position(|number| *number == node)
-}
-
-// Where the smallest free number stands: holes are filled from below, so that none is filled that would be free again.
-fn smallest(free: &[u32]) -> usize
-    requires { 0 < length free.now }
-    ensures place { result < length free.now }
-    ensures smallest { (p : ℕ) → p < length free.now → slice_index free.now result ≤ slice_index free.now p }
-{
-    (0..free.len()).min_by_key(|p| free[*p]).unwrap()
-}
-
-// Moves the last of `count` nodes to the free number `hole`; None where its hint fails.
-fn move_last(nodes: &mut [u32], count: u32, hints: usize, free: &[u32], hole: u32) -> Option<()>
-    requires long { 32 * count ≤ length nodes.old }
-    requires below { hole + 1 < count }
-    ensures { IfSome result (λ _. (w : ℕ) (m : Hops) → Loose w m nodes.old (Used count free.now (length free.now)) → (Used count free.now (length free.now) hole → ⊥) → Used count free.now (length free.now) (count - 1) → Loose w m nodes.new (Moved (Used count free.now (length free.now)) hole (count - 1))) }
-{
-    let last = count - 1;
-    let place = hinted(nodes, count, hints, last)?;
-    if free.contains(&((place / 32) as u32)) {
+    if nodes.len() < 32 * count as usize || free.len() > count as usize {
         return None;
     }
-    let from = 32 * last as usize;
-    nodes.copy_within(from..from + 32, 32 * hole as usize);
-    nodes[place] = hole;
-    set_moved(nodes, count, hints, hole, place);
-    Some(())
+    // Hints stand behind all nodes, those that are vacated too: a reader may still go on in one.
+    if hints < 32 * count as usize {
+        return None;
+    }
+    for others in (0..free.len()).rev() {
+        close_one(nodes, count, hints, &mut free[..=others])?;
+        count -= 1;
+    }
+    Some(count)
 }
 
 // One number less is free, and one node less stands in the row; None where a hint fails.
@@ -64,20 +48,36 @@ fn close_one(nodes: &mut [u32], count: u32, hints: usize, free: &mut [u32]) -> O
     Some(())
 }
 
-// Closes all holes, and answers how many nodes are left; None where a hint fails.
-pub fn close_up(nodes: &mut [u32], mut count: u32, hints: usize, free: &mut [u32]) -> Option<u32>
-    ensures { IfSome result (λ n. (w : ℕ) (m : Hops) → Partly w m nodes.old count free.old (length free.old) → TrieOf w m nodes.new n × (n + length free.old ≡ count)) }
+// Moves the last of `count` nodes to the free number `hole`; None where its hint fails.
+fn move_last(nodes: &mut [u32], count: u32, hints: usize, free: &[u32], hole: u32) -> Option<()>
+    requires long { 32 * count ≤ length nodes.old }
+    requires below { hole + 1 < count }
+    ensures { IfSome result (λ _. (w : ℕ) (m : Hops) → Loose w m nodes.old (Used count free.now (length free.now)) → (Used count free.now (length free.now) hole → ⊥) → Used count free.now (length free.now) (count - 1) → Loose w m nodes.new (Moved (Used count free.now (length free.now)) hole (count - 1))) }
 {
-    if nodes.len() < 32 * count as usize || free.len() > count as usize {
+    let last = count - 1;
+    let place = hinted(nodes, count, hints, last)?;
+    if free.contains(&((place / 32) as u32)) {
         return None;
     }
-    // Hints stand behind all nodes, those that are vacated too: a reader may still go on in one.
-    if hints < 32 * count as usize {
-        return None;
-    }
-    for others in (0..free.len()).rev() {
-        close_one(nodes, count, hints, &mut free[..=others])?;
-        count -= 1;
-    }
-    Some(count)
+    let from = 32 * last as usize;
+    nodes.copy_within(from..from + 32, 32 * hole as usize);
+    nodes[place] = hole;
+    set_moved(nodes, count, hints, hole, place);
+    Some(())
+}
+
+// Where the smallest free number stands: holes are filled from below, so that none is filled that would be free again.
+fn smallest(free: &[u32]) -> usize
+    requires { 0 < length free.now }
+    ensures place { result < length free.now }
+    ensures smallest { (p : ℕ) → p < length free.now → slice_index free.now result ≤ slice_index free.now p }
+{
+    (0..free.len()).min_by_key(|p| free[*p]).unwrap()
+}
+
+// Where a node stands among the free numbers.
+fn place_of(free: &[u32], node: u32) -> Option<usize>
+    ensures { MatchOption result ((p : ℕ) → p < length free.now → slice_index free.now p ≢ node) (λ p. (p < length free.now) × (slice_index free.now p ≡ node)) }
+{
+    free.iter().position(|number| *number == node)
 }

@@ -21,7 +21,7 @@ pub fn cut_off<K: Key>(nodes: &mut [u32], count: u32, prefix: Prefix<K>) -> Opti
     }
     let mut end = End::root();
     end.go_down(nodes, count, prefix)?;
-    // No place is left out, since none is so high: the last node may have any number.
+    // No number of a node stands at the row's end, so that none is left out.
     if stays(nodes, end.last, nodes.len()) {
         return Some(Free::none());
     }
