@@ -1,4 +1,4 @@
--- A walk down the way to a prefix, by the nibbles of its key: for the proof of `walk`. Assumes nothing.
+-- A walk down the way to a prefix, by the nibbles of its key: for the proof of `go_down`. Assumes nothing.
 use Rattle.std.proofs.Common.{◌≡◌, ℕ, ◌+◌, ◌-◌, ◌*◌, ◌/◌, ◌%◌, ◌^◌, ◌<◌, ◌≤◌, ◌≢◌, ◌⊎◌, List, length, get_or, set, sym, refl, ap, ◌∙◌, subst, inl, inr, ⊎_elim, arith}
 use Rattle.std.proofs.lemmas.Nat.{shr-shr, shr_below, mod-pow-add, mod_low, mod_below, pow_pos}
 use Rattle.std.proofs.lemmas.List.{get_or-set_same, get_or-set_other}
@@ -172,6 +172,7 @@ pub record Going (w l x nodes : ℕ) (t : List ℕ) (d y cur place : ℕ) (free 
   pub few : left ≤ d
   pub stands : ((d ≡ 0) × (y ≡ x) × (cur ≡ 0)) ⊎ (Rest w d x y × Walked w l x nodes t d cur place free left)
 
+-- behind some it has a chain
 pub going_there :
     {w l x nodes : ℕ} {t : List ℕ} {d y cur place : ℕ} {free : List ℕ} {left : ℕ} → Going w l x nodes t d y cur place free left → 0 < d
     → Walked w l x nodes t d cur place free left

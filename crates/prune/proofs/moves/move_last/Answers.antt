@@ -9,7 +9,8 @@ returns c w m h hole live =
     let low : c.args.hole + 1 ≤ last = omega arith in
     let one : c.args.count ≡ last + 1 = omega arith in
     let long : 32 * c.args.count ≤ length c.copy_within.new.self = omega arith in
-    let used : (p : ℕ) → p < length c.args.free.now → get_or c.args.free.now p 0 ≢ c.in_ok-place.place / 32 = λ p l e. cc (c.if-contains.ensures.cases p 0 (omega arith) l, eq-eqb (get_or c.args.free.now p 0) (c.in_ok-place.place / 32) e) in
+    let used : (p : ℕ) → p < length c.args.free.now → get_or c.args.free.now p 0 ≢ c.in_ok-place.place / 32 =
+    λ p l e. cc (c.if-contains.ensures.cases p 0 (omega arith) l, eq-eqb (get_or c.args.free.now p 0) (c.in_ok-place.place / 32) e) in
     moved h last c.args.hole c.in_ok-place.place one hole live (omega arith) c.in_ok-place.ensures used
     c.copy_within.new.self c.set_moved.new.nodes long
     (copied_over _ _ c.args.count c.args.hole last (omega arith) c.copy_within.ensures.by_index.0 c.copy_within.ensures.by_index.1 c.copy_within.ensures.by_index.2)

@@ -1,4 +1,4 @@
--- Only the root is on the way, or the last node is not empty, or the nodes that are empty are cut off.
+-- The last node is not empty, or the nodes that are empty are cut off.
 use Rattle.std.proofs.Common.{arith}
 use Rattle.prune.proofs.Cuts.{kept_way, cut_way, needless}
 use Rattle.prune.proofs.ways.cut_off.Goals as goal
