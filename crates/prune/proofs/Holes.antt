@@ -1,4 +1,4 @@
--- A node moved to a free number: what the writes leave of the row, and which nodes are free then. For the proofs of `move_last`, `close_one` and `close_up`. Assumes nothing.
+-- A node moved to a free number: what the writes leave of the row, and which nodes are free then. For the proofs of `move_last`, `close_one`, `close_all` and `prune`. Assumes nothing.
 use Rattle.std.proofs.Common.{◌≡◌, ℕ, ◌+◌, ◌-◌, ◌*◌, ◌/◌, ◌%◌, ◌<◌, ◌≤◌, ◌≢◌, ◌⊎◌, List, ◌++◌, length, take, drop, get_or, set, sym, refl, ap, ◌∙◌, subst, inl, inr, ⊎_elim, arith}
 use Rattle.std.proofs.lemmas.List.{get_or-set_same, get_or-set_other, get_or-take, get_or_append_left, length-take-le}
 use Rattle.std.proofs.lemmas.Bool.{cases_eq, cases_lt, eq-eqb, ne_eqb}

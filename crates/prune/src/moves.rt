@@ -74,6 +74,7 @@ impl<'a> Nodes<'a> {
     {
         let last = self.count - 1;
         let place = self.hinted(last)?;
+        // A cell of a free node names nothing.
         if free.contains(&((place / 32) as u32)) {
             return None;
         }
