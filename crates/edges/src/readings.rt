@@ -14,7 +14,7 @@ fn is_blank(line: &[u8]) -> bool {
 // The address of a line `look ADDRESS`.
 fn looked(line: &[u8]) -> Option<u32> {
     match lines::read(line, 7) {
-        Ok(Line::Command(Command::Look { address })) => Some(address),
+        Ok(Line::Command(Command::Basic(text::Command::Look { address }))) => Some(address),
         _ => None,
     }
 }

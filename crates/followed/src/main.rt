@@ -4,13 +4,10 @@
 ghost use Rattle.table.specs.Right.{Right};
 
 use anyhow::anyhow;
-use lines::Refusal;
 use serve::{Printed, Reply};
-use std::io::{BufRead, BufReader, BufWriter, Read, Write};
+use std::io::{BufReader, BufWriter, Read, Write};
 use std::{env, fs, io};
-
-// The room of the table that is there before the first `table` command.
-const FIRST_ROOM: u64 = 1000;
+use text::Refusal;
 
 fn main(rt: HostRuntime) -> anyhow::Result<()> {
     run(&rt)
@@ -18,7 +15,7 @@ fn main(rt: HostRuntime) -> anyhow::Result<()> {
 
 // Follows the files named, in order, or standard input where none is. The table goes on from file to file; lines are counted anew in each.
 fn run(rt: &HostRuntime) -> anyhow::Result<()> {
-    let Some(mut row) = serve::make(rt.alloc(), FIRST_ROOM) else {
+    let Some(mut row) = serve::make(rt.alloc(), serve::FIRST_ROOM) else {
         return Err(anyhow!("no memory for a table"));
     };
     let mut names = env::args(rt)?;
@@ -59,7 +56,7 @@ fn say_unopened(rt: &HostRuntime, name: &str) -> io::Result<()> {
     eprintln!(rt; "{name} cannot be opened")
 }
 
-// Follows every line. What was replied is written out whenever more input has to be waited for, so that a person sees each reply at once and a file goes through in large pieces.
+// Follows every line.
 fn follow<R: Read + Drop>(
     rt: &HostRuntime,
     row: &mut Vec<u32>,
@@ -71,11 +68,7 @@ fn follow<R: Read + Drop>(
     let mut out = BufWriter::new(rt.alloc(), rt.stdout())?;
     let mut line = Vec::new(rt.alloc());
     for number in 0..u64::MAX {
-        if input.buffer().is_empty() {
-            out.flush()?;
-        }
-        line.clear();
-        if input.read_until(b'\n', &mut line)? == 0 {
+        if !serve::next_line(&mut input, &mut out, &mut line)? {
             break;
         }
         answer(rt, &mut out, row, line.as_slice(), number)?;

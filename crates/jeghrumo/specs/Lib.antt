@@ -1,2 +1,2 @@
--- The definitions of the program: what a command does to the list, and what is replied.
-pub mod Served
+-- The definitions of the program: which lines it can read.
+pub mod Reads

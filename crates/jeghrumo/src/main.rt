@@ -1,40 +1,35 @@
-// The program: it reads commands from standard input, one a line, and prints what the table answers to each.
+// The program: it reads commands from standard input, one a line, and prints what is replied to each. It only reads and prints; what a line does is said by `serve::follow`.
 #![tactic(auto)]
 
-mod tables;
+ghost use Rattle.table.specs.Right.{Right};
+ghost use Rattle.jeghrumo.specs.Reads.{ReadSays};
 
 use anyhow::anyhow;
+use lines::{Command, Line};
+use serve::Printed;
 use std::alloc::Global;
 use std::io;
-use std::io::{BufRead, BufReader, BufWriter, Write};
-use std::str::from_utf8;
-use text::{Command, Line, Reply};
-
-// The room of the table that is there before the first `table` command.
-const FIRST_ROOM: u64 = 1000;
+use std::io::{BufReader, BufWriter, Write};
+use text::Refusal;
 
 fn main(rt: HostRuntime) -> anyhow::Result<()> {
-    serve(&rt)
+    run(&rt)
 }
 
-// Answers every line. What was answered is written out whenever more input has to be waited for, so that a person sees each reply at once and a file goes through in large pieces.
-fn serve(rt: &HostRuntime) -> anyhow::Result<()> {
+// Answers every line of standard input.
+fn run(rt: &HostRuntime) -> anyhow::Result<()> {
     let heap = rt.alloc();
-    let Some(mut row) = tables::make(heap, FIRST_ROOM) else {
+    let Some(mut row) = serve::make(heap, serve::FIRST_ROOM) else {
         return Err(anyhow!("no memory for a table"));
     };
     let mut input = BufReader::new(heap, rt.stdin())?;
     let mut out = BufWriter::new(heap, rt.stdout())?;
     let mut line = Vec::new(heap);
     for number in 0..u64::MAX {
-        if input.buffer().is_empty() {
-            out.flush()?;
-        }
-        line.clear();
-        if input.read_until(b'\n', &mut line)? == 0 {
+        if !serve::next_line(&mut input, &mut out, &mut line)? {
             break;
         }
-        answer(&mut out, heap, &mut row, line.as_slice(), number)?;
+        answer(heap, &mut out, &mut row, line.as_slice(), number)?;
     }
     out.flush()?;
     Ok(())
@@ -42,70 +37,29 @@ fn serve(rt: &HostRuntime) -> anyhow::Result<()> {
 
 // Answers one line, its number counted from 0.
 fn answer<W: Write>(
-    out: &mut W,
     heap: Global,
+    out: &mut W,
     row: &mut Vec<u32>,
     line: &[u8],
     number: u64,
-) -> io::Result<()> {
-    let said = match from_utf8(without_end(line)) {
-        Ok(text) => text::read(text),
-        Err(_) => None,
+) -> io::Result<()>
+    requires { Right 1 row.old.items }
+    ensures { Right 1 row.new.items }
+{
+    let Some(reply) = serve::follow(heap, row, read(line, number)) else {
+        return Ok(());
     };
-    match said {
-        Some(Line::Blank) => Ok(()),
-        Some(Line::Command(command)) => execute(out, heap, row, command),
-        None => reply(
-            out,
-            Reply::Refused {
-                number: 3,
-                place: number,
-            },
-        ),
-    }
+    let printed = Printed { reply, row };
+    writeln!(out, "{printed}")
 }
 
-// A line without what ends it.
-fn without_end(line: &[u8]) -> &[u8] {
-    match line {
-        [text @ .., b'\r', b'\n'] => text,
-        [text @ .., b'\n'] => text,
-        _ => line,
+// What a line says to this program, which knows neither `list` nor `help`.
+#[tactic(auto, using(crate::proofs::Narrows::narrow))]
+fn read(line: &[u8], place: u64) -> Result<Line, Refusal>
+    ensures { ReadSays line.now place result }
+{
+    match lines::read(line, place) {
+        Ok(Line::Command(Command::List | Command::Help)) => Err(Refusal::Line { line: place }),
+        said => said,
     }
-}
-
-fn execute<W: Write>(
-    out: &mut W,
-    heap: Global,
-    row: &mut Vec<u32>,
-    command: Command,
-) -> io::Result<()> {
-    match command {
-        Command::Table { room } => match tables::make(heap, room) {
-            Some(new) => {
-                *row = new;
-                reply(out, Reply::Ready)
-            }
-            None => reply(out, Reply::NoMemory),
-        },
-        Command::Put { bits, len, hop } => reply(out, tables::put(row, bits, len, hop)),
-        Command::Away { bits, len } => reply(out, tables::away(row, bits, len)),
-        Command::Look { address } => reply(out, tables::look(row, address)),
-        Command::Beneath { bits, len } => beneath(out, row, bits, len),
-        Command::Nodes => reply(out, Reply::Nodes(table::nodes(row) as u64)),
-    }
-}
-
-// Prints the routes beneath a prefix, in their order, from the part of the row in which they stand, and how many they are.
-fn beneath<W: Write>(out: &mut W, row: &[u32], bits: u32, len: u64) -> io::Result<()> {
-    let (routes, _) = beneath::beneath(row, bits, len).as_chunks::<3>();
-    for [bits, len, hop] in routes {
-        let (bits, len, hop) = (*bits, *len as u64, *hop as u64);
-        reply(out, Reply::Route { bits, len, hop })?;
-    }
-    reply(out, Reply::Beneath(routes.len() as u64))
-}
-
-fn reply<W: Write>(out: &mut W, reply: Reply) -> io::Result<()> {
-    writeln!(out, "{reply}")
 }

@@ -1,8 +1,3 @@
--- The lemmas that the proofs of `text` share, by subject.
-pub mod Cuts
-pub mod Digits
-pub mod Quads
-pub mod Asks
-pub mod Remarks
+-- The lemmas of `lines`, by subject.
 pub mod Backs
 pub mod Examples

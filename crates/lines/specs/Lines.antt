@@ -1,8 +1,8 @@
 -- How a line of bytes is read, or refused, for whoever writes lines.
 use Rattle.std.specs.Prelude.{◌≡◌, ℕ, ◌-◌, Bool, cond, ◌&&◌, List, length, take, Some, None, Ok, Err, IsUtf8, Option, Result, ◌==◌, nat_le, slice_index}
 use Rattle.lines.specs.declared.lines.Line.{Line}
-use Rattle.lines.specs.declared.refusals.Refusal.{Refusal}
-use Rattle.lines.specs.declared.refusals.Refusal.TheVariants.{Line as Unread}
+use Rattle.text.specs.declared.refusals.Refusal.{Refusal}
+use Rattle.text.specs.declared.refusals.Refusal.TheVariants.{Line as Unread}
 use Rattle.lines.specs.Commands.{reads}
 
 -- whether byte b stands k bytes before the end

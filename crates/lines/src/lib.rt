@@ -1,13 +1,11 @@
-// The text side of a routing table, for `serve`, and to take the place of `text`: a line of bytes is read into a command or refused, and commands and addresses are written.
+// The text side of a routing table for `serve`: `text` reads and writes what a line asks of the table, and here come the commands `list` and `help` and lines of bytes.
 #![tactic(auto)]
 
-mod addresses;
+mod commands;
 mod laws;
 mod lines;
-mod numerals;
-mod refusals;
 
-pub use addresses::Dotted;
-pub use laws::{command_round_trip, dotted_round_trip};
-pub use lines::{Command, Line, read};
-pub use refusals::Refusal;
+pub use commands::Command;
+pub use laws::command_round_trip;
+pub use lines::{Line, read};
+pub use text::{Dotted, Refusal, dotted_round_trip};

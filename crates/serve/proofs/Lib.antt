@@ -2,3 +2,4 @@
 pub mod Lines
 pub mod Writes
 pub mod Stays
+pub mod Examples

@@ -8,8 +8,9 @@ use Rattle.table.specs.declared.entries.Change.{Change}
 use Rattle.table.specs.declared.entries.Change.TheVariants as change
 use Rattle.table.specs.declared.entries.Done.{Done}
 use Rattle.table.specs.declared.entries.Done.TheVariants.{Ready, Full, Without}
-use Rattle.lines.specs.declared.lines.Command.{Command}
-use Rattle.lines.specs.declared.lines.Command.TheVariants as command
+use Rattle.text.specs.declared.lines.Command.TheVariants as basic
+use Rattle.lines.specs.declared.commands.Command.{Command}
+use Rattle.lines.specs.declared.commands.Command.TheVariants as command
 use Rattle.serve.specs.declared.replies.Reply.{Reply}
 use Rattle.serve.specs.declared.replies.Reply.TheVariants.{Ready as Set, NoMemory}
 use Rattle.serve.specs.Serves.{Serves}
@@ -27,11 +28,11 @@ change_right old new (change.Away bits len) done h right = ⊎_elim (λ (s : (do
 
 -- every command
 pub serves_right : (old new : List ℕ) (c : Command) (reply : Reply) → Serves old new c reply → Right 1 old → Right 1 new
-serves_right old new (command.Table wanted) reply h right = ⊎_elim (λ (s : (reply ≡ Set) × Right 1 new × (listed 1 new ≡ []) × (room new ≡ wanted)). s.1) (λ (s : (reply ≡ NoMemory) × (new ≡ old)). unchanged old new s.1 right) h
-serves_right old new (command.Put bits len hop) reply h right = change_right old new (change.Put bits len hop) h.done h.says right
-serves_right old new (command.Away bits len) reply h right = change_right old new (change.Away bits len) h.done h.says right
-serves_right old new (command.Look address) reply h right = unchanged old new h.0 right
-serves_right old new (command.Beneath bits len) reply h right = unchanged old new h.0 right
+serves_right old new (command.Basic (basic.Table wanted)) reply h right = ⊎_elim (λ (s : (reply ≡ Set) × Right 1 new × (listed 1 new ≡ []) × (room new ≡ wanted)). s.1) (λ (s : (reply ≡ NoMemory) × (new ≡ old)). unchanged old new s.1 right) h
+serves_right old new (command.Basic (basic.Put bits len hop)) reply h right = change_right old new (change.Put bits len hop) h.done h.says right
+serves_right old new (command.Basic (basic.Away bits len)) reply h right = change_right old new (change.Away bits len) h.done h.says right
+serves_right old new (command.Basic (basic.Look address)) reply h right = unchanged old new h.0 right
+serves_right old new (command.Basic (basic.Beneath bits len)) reply h right = unchanged old new h.0 right
 serves_right old new command.List reply h right = unchanged old new h.0 right
-serves_right old new command.Nodes reply h right = unchanged old new h.0 right
+serves_right old new (command.Basic basic.Nodes) reply h right = unchanged old new h.0 right
 serves_right old new command.Help reply h right = unchanged old new h.0 right

@@ -1,8 +1,8 @@
 -- How replies are printed, for whoever reads what the program prints. Assumes nothing: these are definitions.
 use Rattle.std.specs.Prelude.{ℕ, ◌-◌, List, [], ◌∷◌, ◌++◌, take, drop, codes, decimal as figures}
 use Rattle.prefix.specs.Routes.{Route}
-use Rattle.lines.specs.Dots.{dots}
-use Rattle.lines.specs.Refusals.{refused}
+use Rattle.text.specs.Dots.{dots}
+use Rattle.text.specs.Refusals.{refused}
 use Rattle.serve.specs.declared.replies.Reply.{Reply}
 use Rattle.serve.specs.declared.replies.Reply.TheVariants.{To, Nowhere, Ready, Full, Without, Refused, NoMemory, Beneath, Listed, Nodes, Help}
 

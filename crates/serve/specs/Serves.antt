@@ -9,13 +9,14 @@ use Rattle.table.specs.declared.entries.Change.{Change}
 use Rattle.table.specs.declared.entries.Change.TheVariants as change
 use Rattle.table.specs.declared.entries.Done.{Done}
 use Rattle.table.specs.declared.entries.Done.TheVariants as done
+use Rattle.text.specs.declared.lines.Command.TheVariants as basic
+use Rattle.text.specs.declared.refusals.Refusal.{Refusal}
+use Rattle.text.specs.declared.refusals.Refusal.TheVariants.{Prefix, Hop}
 use Rattle.lines.specs.Lines.{ReadSays}
-use Rattle.lines.specs.declared.lines.Command.{Command}
-use Rattle.lines.specs.declared.lines.Command.TheVariants as command
+use Rattle.lines.specs.declared.commands.Command.{Command}
+use Rattle.lines.specs.declared.commands.Command.TheVariants as command
 use Rattle.lines.specs.declared.lines.Line.{Line}
 use Rattle.lines.specs.declared.lines.Line.TheVariants.{Blank, Command as Asks}
-use Rattle.lines.specs.declared.refusals.Refusal.{Refusal}
-use Rattle.lines.specs.declared.refusals.Refusal.TheVariants.{Prefix, Hop}
 use Rattle.serve.specs.declared.replies.Reply.{Reply}
 use Rattle.serve.specs.declared.replies.Reply.TheVariants.{To, Nowhere, Ready, Full, Without, Refused, NoMemory, Beneath, Listed, Nodes, Help}
 
@@ -53,13 +54,13 @@ Spans old len bits reply = (from : ℕ) × (to : ℕ) × (reply ≡ Beneath from
 
 -- what each command makes of a table, and what is replied
 abbrev pub Serves : (old new : List ℕ) → Command → Reply → Type 0
-Serves old new (command.Table wanted) reply = Makes old new wanted reply
-Serves old new (command.Put bits len hop) reply = Changes old new (change.Put bits len hop) len hop reply
-Serves old new (command.Away bits len) reply = Changes old new (change.Away bits len) len 0 reply
-Serves old new (command.Look address) reply = (new ≡ old) × Looks old address reply
-Serves old new (command.Beneath bits len) reply = (new ≡ old) × Spans old len bits reply
+Serves old new (command.Basic (basic.Table wanted)) reply = Makes old new wanted reply
+Serves old new (command.Basic (basic.Put bits len hop)) reply = Changes old new (change.Put bits len hop) len hop reply
+Serves old new (command.Basic (basic.Away bits len)) reply = Changes old new (change.Away bits len) len 0 reply
+Serves old new (command.Basic (basic.Look address)) reply = (new ≡ old) × Looks old address reply
+Serves old new (command.Basic (basic.Beneath bits len)) reply = (new ≡ old) × Spans old len bits reply
 Serves old new command.List reply = (new ≡ old) × (reply ≡ Listed (length (listed 1 old)))
-Serves old new command.Nodes reply = (new ≡ old) × (reply ≡ Nodes (nodes 1 old))
+Serves old new (command.Basic basic.Nodes) reply = (new ≡ old) × (reply ≡ Nodes (nodes 1 old))
 Serves old new command.Help reply = (new ≡ old) × (reply ≡ Help)
 
 -- what a line that was read, or refused, makes of a table, and what is replied

@@ -2,14 +2,19 @@
 ghost use Rattle.std.specs.Prelude.{◌≡◌, [], IfSome};
 ghost use Rattle.table.specs.Right.{Right, room, listed};
 ghost use Rattle.table.specs.declared.entries.Change.TheVariants.{Put, Away};
-ghost use Rattle.serve.specs.Serves.{Serves, Responds, Changes, Makes, Looks, Spans, reply_of};
+ghost use Rattle.lines.specs.declared.commands.Command.TheVariants.{Basic};
+ghost use Rattle.serve.specs.Serves.{Serves, Follows, Responds, Changes, Makes, Looks, Spans, reply_of};
 
 use crate::replies::Reply;
 use beneath::Span;
-use lines::{Command, Line, Refusal};
+use lines::{Command, Line};
 use routes::Extent;
 use std::alloc::Global;
 use table::{Change, Done, Table};
+use text::Refusal;
+
+// The room of the table that a program has before the first `table` command.
+pub const FIRST_ROOM: u64 = 1000;
 
 // An empty table with so much room, or none where there is no memory for it.
 pub fn make(heap: Global, wanted: u64) -> Option<Vec<u32>>
@@ -27,7 +32,15 @@ pub fn respond(heap: Global, row: &mut Vec<u32>, line: &[u8], place: u64) -> Opt
     ensures says { Responds row.old.items row.new.items line.now place result }
     ensures right { Right 1 row.old.items → Right 1 row.new.items }
 {
-    match lines::read(line, place) {
+    follow(heap, row, lines::read(line, place))
+}
+
+// Answers what a line was read as, or why it was refused.
+pub fn follow(heap: Global, row: &mut Vec<u32>, said: Result<Line, Refusal>) -> Option<Reply>
+    ensures says { Follows row.old.items row.new.items said result }
+    ensures right { Right 1 row.old.items → Right 1 row.new.items }
+{
+    match said {
         Ok(Line::Blank) => None,
         Ok(Line::Command(command)) => Some(execute(heap, row, command)),
         Err(refusal) => Some(Reply::Refused(refusal)),
@@ -40,14 +53,24 @@ pub fn execute(heap: Global, row: &mut Vec<u32>, command: Command) -> Reply
     ensures right { Right 1 row.old.items → Right 1 row.new.items }
 {
     match command {
-        Command::Table { room } => replace(heap, row, room),
-        Command::Put { bits, len, hop } => put(row, bits, len, hop),
-        Command::Away { bits, len } => away(row, bits, len),
-        Command::Look { address } => look(row, address),
-        Command::Beneath { bits, len } => beneath(row, bits, len),
+        Command::Basic(command) => execute_basic(heap, row, command),
         Command::List => Reply::Listed(Extent::of::<u32>(row, 3).count),
-        Command::Nodes => Reply::Nodes(table::nodes(row)),
         Command::Help => Reply::Help,
+    }
+}
+
+// The same of the commands of `text`.
+fn execute_basic(heap: Global, row: &mut Vec<u32>, command: text::Command) -> Reply
+    ensures says { Serves row.old.items row.new.items (Basic command) result }
+    ensures right { Right 1 row.old.items → Right 1 row.new.items }
+{
+    match command {
+        text::Command::Table { room } => replace(heap, row, room),
+        text::Command::Put { bits, len, hop } => put(row, bits, len, hop),
+        text::Command::Away { bits, len } => away(row, bits, len),
+        text::Command::Look { address } => look(row, address),
+        text::Command::Beneath { bits, len } => beneath(row, bits, len),
+        text::Command::Nodes => Reply::Nodes(table::nodes(row)),
     }
 }
 

@@ -6,9 +6,9 @@ ghost use Rattle.routes.specs.Rows.{routes};
 ghost use Rattle.serve.specs.Replies.{written, lines, between, route_line};
 
 use crate::replies::Reply;
-use lines::Dotted;
 use prefix::Prefix;
 use std::fmt;
+use text::Dotted;
 
 // A reply beside the row that it speaks of.
 #[derive(Clone, Copy)]

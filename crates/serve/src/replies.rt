@@ -1,5 +1,5 @@
 // What is replied to a command, as a value.
-use lines::Refusal;
+use text::Refusal;
 
 // Routes are told by their places in the table's list, from one to before another.
 #[derive(Clone, Copy)]

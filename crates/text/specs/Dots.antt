@@ -1,4 +1,4 @@
--- How a number is written in four parts, for the readers of `Commands` and `Replies`.
+-- How a number is written in four parts, for the readers of `Commands` and of what replies print.
 use Rattle.std.specs.Prelude.{ℕ, ◌/◌, ◌%◌, List, ◌++◌, codes, decimal as figures}
 
 -- a number of 32 bits as four decimal parts, the highest byte first

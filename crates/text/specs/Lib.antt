@@ -4,4 +4,4 @@ pub mod Dots
 pub mod Fields
 pub mod Laws
 pub mod Numerals
-pub mod Replies
+pub mod Refusals

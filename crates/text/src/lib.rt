@@ -1,11 +1,13 @@
-// The text side of a routing table, for the program that serves one: a line is read into a command, and a reply is written.
+// The text side of a routing table, for `lines` and the programs that serve a table: a line is read into a command, and commands, addresses and refusals are written.
 #![tactic(auto)]
 
+mod addresses;
 mod laws;
 mod lines;
 mod numerals;
-mod replies;
+mod refusals;
 
+pub use addresses::Dotted;
 pub use laws::{command_round_trip, dotted_round_trip};
 pub use lines::{Command, Line, read};
-pub use replies::{Dotted, Reply};
+pub use refusals::Refusal;

@@ -3,8 +3,8 @@ ghost use Rattle.std.specs.Prelude.{◌≡◌, Some};
 ghost use Rattle.text.specs.Commands.{reads, ordered, command, put, prefix, said};
 ghost use Rattle.text.specs.Fields.{fields};
 
+use crate::addresses::Dotted;
 use crate::numerals::{decimal, dotted};
-use crate::replies::Dotted;
 use std::fmt;
 
 // What a line asks for. A length and a hop are as written: the table says whether they are in range.

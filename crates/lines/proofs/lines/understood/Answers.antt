@@ -1,32 +1,26 @@
--- `understood`: lines that are passed over, and commands, for the check.
-use Rattle.std.proofs.Common.{◌≡◌, length, sym, ap, ◌∙◌, lit<}
-use Rattle.std.specs.Option.{option_map}
-use Rattle.std.proofs.lemmas.Str.Pattern.{starts_char}
-use Rattle.std.proofs.lemmas.Bool.{eqb-true, eqb-false}
-use Rattle.std.proofs.lemmas.Bool.Decides.{not_from_Decides}
-use Rattle.lines.specs.Commands.{reads, ordered}
-use Rattle.lines.specs.declared.lines.Line.TheVariants.{Command as Asks}
-use Rattle.lines.proofs.Remarks.{blank_empty, blank_remark, reads_else}
+-- `understood`: the two commands of one word, and what `text` reads, for the check.
+use Rattle.std.proofs.Common.{◌≡◌, Some, None, Option, codes, sym, ap}
+use Rattle.std.specs.Option.{MatchOption, IsSomeAnd, option_map}
+use Rattle.text.specs.declared.lines.Line.{Line as TextLine}
+use Rattle.text.proofs.Asks.{differs}
+use Rattle.lines.specs.declared.lines.Line.{Line}
+use Rattle.lines.specs.Commands.{reads, widened}
 use Rattle.lines.proofs.lines.understood.Goals as goal
-use Rattle.lines.proofs.lines.understood.Goals.{Else-starts_with, then-is_empty-via-then-is_empty, then-is_empty-via-else-is_empty+then-starts_with}
 
-pub returns-then-is_empty : goal.returns-then-is_empty
-returns-then-is_empty c =
-    elim c.then-is_empty.branch [
-      | then-is_empty-via-then-is_empty w ↦ blank_empty c.args.text.now (eqb-true (length c.args.text.now) 0 (sym c.is_empty.ensures ∙ w.if-is_empty.true))
-      | then-is_empty-via-else-is_empty+then-starts_with w ↦
-          let h = starts_char 35 c.args.text.now w.starts_with.result w.starts_with.ensures.cases (lit< tt) (lit< tt) in
-          blank_remark c.args.text.now (h.0 w.if-starts_with.true)
-    ]
+pub returns-in-list : goal.returns-in-list
+unfolding reads
+returns-in-list c = sym (ap reads c.in-list.is)
 
--- a line that is not passed over
-told : (c : Else-starts_with) → reads c.args.text.now ≡ option_map Asks (ordered c.args.text.now)
-told c =
-    let h = starts_char 35 c.args.text.now c.starts_with.result c.starts_with.ensures.cases (lit< tt) (lit< tt) in
-    reads_else c.args.text.now (eqb-false (length c.args.text.now) 0 (sym c.is_empty.ensures ∙ c.if-is_empty.false)) (not_from_Decides c.starts_with.result h c.if-starts_with.false)
+pub returns-in-help : goal.returns-in-help
+unfolding reads
+returns-in-help c = sym (ap reads c.in-help.is)
 
-pub returns-in_err-ordered : goal.returns-in_err-ordered
-returns-in_err-ordered c = c.from_residual.ensures ∙ sym (told (goal.at.returns-in_err-ordered c).Else-starts_with ∙ ap (option_map Asks) (sym c.in_err-ordered.ensures))
+mapped : (o : Option TextLine) (r : Option Line) → MatchOption o (r ≡ None) (λ x. IsSomeAnd r (λ y. y ≡ widened x)) → r ≡ option_map widened o
+mapped None r h = h
+mapped (Some x) (Some y) h = ap (λ (l : Line). Some l) h
+mapped (Some x) None h = absurd h
 
-pub returns : goal.returns
-returns c = sym (told (goal.at.returns c).Else-starts_with ∙ ap (option_map Asks) (sym c.in_ok-ordered.ensures))
+pub returns-in_default : goal.returns-in_default
+unfolding reads
+returns-in_default c =
+    rw (differs c.args.text.now (codes "list") c.in_default.not-list, differs c.args.text.now (codes "help") c.in_default.not-help, ← c.read.ensures) (mapped c.read.result c.map.result c.map.ensures.cases)

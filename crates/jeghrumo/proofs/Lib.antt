@@ -1,0 +1,2 @@
+-- The lemmas of the program, by subject.
+pub mod Narrows

@@ -1,6 +1,0 @@
--- The law of dotted numbers, for the check.
-use Rattle.lines.proofs.Backs.{dotted_back}
-use Rattle.lines.proofs.laws.dotted_round_trip.Goals as goal
-
-pub returns : goal.returns
-returns c = dotted_back
