@@ -2,98 +2,99 @@
 use lines::{Command, Line, Refusal};
 use std::test::Fail;
 
-// Whether a line, at place 7, is refused with its place.
-fn is_unread(line: &[u8]) -> bool {
-    matches!(lines::read(line, 7), Err(Refusal::Line { line: 7 }))
+// What a line says, at place 7.
+fn read(line: &[u8]) -> Result<Line, Refusal> {
+    lines::read(line, 7)
 }
 
-fn is_blank(line: &[u8]) -> bool {
-    matches!(lines::read(line, 7), Ok(Line::Blank))
-}
+// A line that cannot be read is refused with its place.
+const UNREAD: Result<Line, Refusal> = Err(Refusal::Line { line: 7 });
 
-// The address of a line `look ADDRESS`.
-fn looked(line: &[u8]) -> Option<u32> {
-    match lines::read(line, 7) {
-        Ok(Line::Command(Command::Basic(text::Command::Look { address }))) => Some(address),
-        _ => None,
-    }
+const BLANK: Result<Line, Refusal> = Ok(Line::Blank);
+
+// A line `look ADDRESS`.
+fn look(address: u32) -> Result<Line, Refusal> {
+    Ok(Line::Command(Command::Basic(text::Command::Look { address })))
 }
 
 #[test]
 fn parts_of_an_address(rt: HostRuntime) {
-    assert_eq!(rt; looked(b"look 255.255.255.255"), Some(0xffff_ffff));
-    assert_eq!(rt; looked(b"look 1.2.3.4"), Some(0x0102_0304));
-    assert_eq!(rt; looked(b"look 001.002.003.004"), Some(0x0102_0304));
-    assert!(rt; is_unread(b"look 10.1.2.256"));
-    assert!(rt; is_unread(b"look 256.0.0.0"));
-    assert!(rt; is_unread(b"look 10.1.2.3.4"));
-    assert!(rt; is_unread(b"look 10.1.2"));
-    assert!(rt; is_unread(b"look 10.1..2"));
-    assert!(rt; is_unread(b"look .1.2.3"));
-    assert!(rt; is_unread(b"look 10.1.2."));
-    assert!(rt; is_unread(b"look 10.1.2.0003"));
-    assert!(rt; is_unread(b"look 10.1.2.0x3"));
-    assert!(rt; is_unread(b"look 0a.1.2.3"));
+    assert_eq!(rt; read(b"look 255.255.255.255"), look(0xffff_ffff));
+    assert_eq!(rt; read(b"look 1.2.3.4"), look(0x0102_0304));
+    assert_eq!(rt; read(b"look 001.002.003.004"), look(0x0102_0304));
+    assert_eq!(rt; read(b"look 10.1.2.256"), UNREAD);
+    assert_eq!(rt; read(b"look 256.0.0.0"), UNREAD);
+    assert_eq!(rt; read(b"look 10.1.2.3.4"), UNREAD);
+    assert_eq!(rt; read(b"look 10.1.2"), UNREAD);
+    assert_eq!(rt; read(b"look 10.1..2"), UNREAD);
+    assert_eq!(rt; read(b"look .1.2.3"), UNREAD);
+    assert_eq!(rt; read(b"look 10.1.2."), UNREAD);
+    assert_eq!(rt; read(b"look 10.1.2.0003"), UNREAD);
+    assert_eq!(rt; read(b"look 10.1.2.0x3"), UNREAD);
+    assert_eq!(rt; read(b"look 0a.1.2.3"), UNREAD);
 }
 
 #[test]
 fn signs(rt: HostRuntime) {
-    assert!(rt; is_unread(b"look +1.2.3.4"));
-    assert!(rt; is_unread(b"look -1.2.3.4"));
-    assert!(rt; is_unread(b"put 10.0.0.0 +8 to 1"));
-    assert!(rt; is_unread(b"put 10.0.0.0 8 to -1"));
+    assert_eq!(rt; read(b"look +1.2.3.4"), UNREAD);
+    assert_eq!(rt; read(b"look -1.2.3.4"), UNREAD);
+    assert_eq!(rt; read(b"put 10.0.0.0 +8 to 1"), UNREAD);
+    assert_eq!(rt; read(b"put 10.0.0.0 8 to -1"), UNREAD);
 }
 
 #[test]
 fn numbers_of_64_bits(rt: HostRuntime) {
-    assert!(rt; !is_unread(b"put 10.0.0.0 18446744073709551615 to 18446744073709551615"));
-    assert!(rt; is_unread(b"put 10.0.0.0 18446744073709551616 to 1"));
-    assert!(rt; is_unread(b"put 10.0.0.0 8 to 18446744073709551616"));
-    assert!(rt; is_unread(b"table 18446744073709551616"));
-    assert!(rt; is_unread(b"table"));
-    assert!(rt; is_unread(b"table "));
+    assert_ne!(rt;
+        read(b"put 10.0.0.0 18446744073709551615 to 18446744073709551615"),
+        UNREAD
+    );
+    assert_eq!(rt; read(b"put 10.0.0.0 18446744073709551616 to 1"), UNREAD);
+    assert_eq!(rt; read(b"put 10.0.0.0 8 to 18446744073709551616"), UNREAD);
+    assert_eq!(rt; read(b"table 18446744073709551616"), UNREAD);
+    assert_eq!(rt; read(b"table"), UNREAD);
+    assert_eq!(rt; read(b"table "), UNREAD);
 }
 
 #[test]
 fn words_and_spaces(rt: HostRuntime) {
-    assert!(rt; is_unread(b"put 10.0.0.0 8 to 1 now"));
-    assert!(rt; is_unread(b"put 10.0.0.0 8 via 1"));
-    assert!(rt; is_unread(b"put 10.0.0.0  8 to 1"));
-    assert!(rt; is_unread(b"look 10.0.0.1 "));
-    assert!(rt; is_unread(b" look 10.0.0.1"));
-    assert!(rt; is_unread(b"look\t10.0.0.1"));
-    assert!(rt; is_unread(b"look 10.0.0.1\t"));
-    assert!(rt; is_unread(b"lookup 10.0.0.1"));
-    assert!(rt; is_unread(b"LOOK 10.0.0.1"));
-    assert!(rt; is_unread(b"list all"));
-    assert!(rt; is_unread(b" "));
+    assert_eq!(rt; read(b"put 10.0.0.0 8 to 1 now"), UNREAD);
+    assert_eq!(rt; read(b"put 10.0.0.0 8 via 1"), UNREAD);
+    assert_eq!(rt; read(b"put 10.0.0.0  8 to 1"), UNREAD);
+    assert_eq!(rt; read(b"look 10.0.0.1 "), UNREAD);
+    assert_eq!(rt; read(b" look 10.0.0.1"), UNREAD);
+    assert_eq!(rt; read(b"look\t10.0.0.1"), UNREAD);
+    assert_eq!(rt; read(b"look 10.0.0.1\t"), UNREAD);
+    assert_eq!(rt; read(b"lookup 10.0.0.1"), UNREAD);
+    assert_eq!(rt; read(b"LOOK 10.0.0.1"), UNREAD);
+    assert_eq!(rt; read(b"list all"), UNREAD);
+    assert_eq!(rt; read(b" "), UNREAD);
 }
 
 #[test]
 fn ends_of_lines(rt: HostRuntime) {
-    assert_eq!(rt; looked(b"look 0.0.0.1\n"), Some(1));
-    assert_eq!(rt; looked(b"look 0.0.0.1\r\n"), Some(1));
-    assert!(rt; is_unread(b"look 0.0.0.1\r"));
-    assert!(rt; is_unread(b"look 0.0.0.1\n\n"));
-    assert!(rt; is_blank(b""));
-    assert!(rt; is_blank(b"\n"));
-    assert!(rt; is_blank(b"\r\n"));
-    assert!(rt; is_blank(b"# look 0.0.0.1"));
+    assert_eq!(rt; read(b"look 0.0.0.1\n"), look(1));
+    assert_eq!(rt; read(b"look 0.0.0.1\r\n"), look(1));
+    assert_eq!(rt; read(b"look 0.0.0.1\r"), UNREAD);
+    assert_eq!(rt; read(b"look 0.0.0.1\n\n"), UNREAD);
+    assert_eq!(rt; read(b""), BLANK);
+    assert_eq!(rt; read(b"\n"), BLANK);
+    assert_eq!(rt; read(b"\r\n"), BLANK);
+    assert_eq!(rt; read(b"# look 0.0.0.1"), BLANK);
 }
 
 #[test]
 fn bytes_that_are_no_text(rt: HostRuntime) {
-    assert!(rt; is_unread(&[0xff]));
-    assert!(rt; is_unread(&[b'#', 0xc3]));
-    assert!(rt; is_unread(b"look 10.0.0.1\0"));
-    assert!(rt; is_blank("# für".as_bytes()));
+    assert_eq!(rt; read(&[0xff]), UNREAD);
+    assert_eq!(rt; read(&[b'#', 0xc3]), UNREAD);
+    assert_eq!(rt; read(b"look 10.0.0.1\0"), UNREAD);
+    assert_eq!(rt; read("# für".as_bytes()), BLANK);
 }
 
 #[test]
 fn a_million_characters(rt: HostRuntime) -> Result<(), Fail> {
     let line = vec![in rt.alloc(); b'1'; 1_000_000]?;
-    assert!(rt; is_unread(line.as_slice()));
+    assert_eq!(rt; read(line.as_slice()), UNREAD);
     let remark = vec![in rt.alloc(); b'#'; 1_000_000]?;
-    assert!(rt; is_blank(remark.as_slice()));
+    assert_eq!(rt; read(remark.as_slice()), BLANK);
     Ok(())
 }

@@ -5,7 +5,7 @@ ghost use Rattle.lines.specs.Commands.{said};
 use std::fmt;
 
 // What a line asks for: one of the commands of `text`, or one of those that stand beside them.
-#[derive(Clone, Copy)]
+#[derive(Clone, Copy, Debug, PartialEq, Eq)]
 pub enum Command {
     Basic(text::Command),
     List,

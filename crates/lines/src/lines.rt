@@ -8,7 +8,7 @@ use std::str::from_utf8;
 use text::Refusal;
 
 // A line that can be read. A blank one, or one that begins with `#`, is passed over.
-#[derive(Clone, Copy)]
+#[derive(Clone, Copy, Debug, PartialEq, Eq)]
 pub enum Line {
     Blank,
     Command(Command),

@@ -8,7 +8,7 @@ use crate::numerals::{decimal, dotted};
 use std::fmt;
 
 // What a line asks for. A length and a hop are as written: the table says whether they are in range.
-#[derive(Clone, Copy)]
+#[derive(Clone, Copy, Debug, PartialEq, Eq)]
 pub enum Command {
     Table { room: u64 },
     Put { bits: u32, len: u64, hop: u64 },
@@ -46,7 +46,7 @@ impl fmt::Display for Command {
 }
 
 // A line that can be read. A blank one, or one that begins with `#`, is passed over.
-#[derive(Clone, Copy)]
+#[derive(Clone, Copy, Debug, PartialEq, Eq)]
 pub enum Line {
     Blank,
     Command(Command),

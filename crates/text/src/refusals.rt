@@ -5,7 +5,7 @@ ghost use Rattle.text.specs.Refusals.{refused};
 use std::fmt;
 
 // What is turned away, with its place: a route's length where it has no prefix, a hop that there is not, or a line that cannot be read. They print with the numbers 1, 2 and 3.
-#[derive(Clone, Copy)]
+#[derive(Clone, Copy, Debug, PartialEq, Eq)]
 pub enum Refusal {
     Prefix { len: u64 },
     Hop { hop: u64 },
