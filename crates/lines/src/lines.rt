@@ -46,13 +46,13 @@ fn chomp(line: &[u8]) -> &[u8]
     }
 }
 
-// What the text of a line says, if anything.
-fn understood(text: &str) -> Option<Line>
-    ensures { result ≡ reads text.now }
+// What a line of text says, if anything.
+fn understood(line: &str) -> Option<Line>
+    ensures { result ≡ reads line.now }
 {
-    match text {
+    match line {
         "list" => Some(Line::Command(Command::List)),
         "help" => Some(Line::Command(Command::Help)),
-        _ => text::read(text).map(Line::from),
+        _ => text::read(line).map(Line::from),
     }
 }

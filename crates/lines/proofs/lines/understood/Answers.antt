@@ -23,4 +23,4 @@ mapped (Some x) None h = absurd h
 pub returns-in_default : goal.returns-in_default
 unfolding reads
 returns-in_default c =
-    rw (differs c.args.text.now (codes "list") c.in_default.not-list, differs c.args.text.now (codes "help") c.in_default.not-help, ← c.read.ensures) (mapped c.read.result c.map.result c.map.ensures.cases)
+    rw (differs c.args.line.now (codes "list") c.in_default.not-list, differs c.args.line.now (codes "help") c.in_default.not-help, ← c.read.ensures) (mapped c.read.result c.map.result c.map.ensures.cases)
