@@ -1,10 +1,10 @@
 -- What the functions for C answer, over what the entries beneath them say. Assumes nothing: these are definitions.
-use Rattle.std.specs.Prelude.{◌≡◌, Bool, true, false, cond, List, [], ℕ, ◌+◌, ◌^◌, ◌≤◌, ◌<◌, ltb, length}
+use Rattle.std.specs.Prelude.{◌≡◌, Bool, true, false, List, [], ℕ, ◌+◌, ◌^◌, ◌≤◌, ◌<◌, length}
 use Rattle.prefix.specs.Routes.{route_of}
 use Rattle.routes.specs.Rows.{slot}
 use Rattle.beneath.specs.Parts.{SpanSays}
 use Rattle.table.specs.Right.{Right, room, listed, most_nodes, row_length}
-use Rattle.table.specs.Entries.{refusal, PutEntrySays, TakeAwaySays}
+use Rattle.table.specs.Entries.{refusal, number, PutEntrySays, TakeAwaySays}
 use Rattle.table.specs.declared.entries.Done.{Done}
 use Rattle.table.specs.declared.entries.Done.TheVariants.{To, Nowhere, Ready, Full, Without, Refused}
 
@@ -13,7 +13,7 @@ abbrev pub code : Done → ℕ
 code Ready = 0
 code Full = 1000
 code Without = 1001
-code (Refused number) = cond (ltb number 1000) number 1002
+code (Refused refusal) = number refusal
 code (To hop) = 1002
 code Nowhere = 1002
 

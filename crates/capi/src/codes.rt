@@ -11,7 +11,7 @@ const FULL: u32 = 1000;
 
 const WITHOUT: u32 = 1001;
 
-// Neither a look's answer nor a refusal with a number so large is a change's.
+// A look's answer is no change's.
 const OTHER: u32 = 1002;
 
 pub(crate) fn code_of(done: Done) -> u32
@@ -21,13 +21,7 @@ pub(crate) fn code_of(done: Done) -> u32
         Done::Ready => READY,
         Done::Full => FULL,
         Done::Without => WITHOUT,
-        Done::Refused(number) => {
-            if number < FULL as u64 {
-                number as u32
-            } else {
-                OTHER
-            }
-        }
+        Done::Refused(refusal) => refusal as u32,
         _ => OTHER,
     }
 }

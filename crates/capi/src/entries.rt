@@ -9,6 +9,7 @@ ghost use Rattle.capi.specs.Codes.{Puts, Takes, Makes, Long, Lies};
 
 use crate::codes::code_of;
 use beneath::Span;
+use prefix::word_of;
 
 // Routes that stand together: the place in the row of the first one's first number, and how many they are.
 #[repr(C)]
@@ -24,7 +25,7 @@ pub extern "C" fn jeghrumo_look(row: &[u32], address: u32) -> u32
     ensures value { result ≡ found 1 row.now address }
     ensures right { Right 1 row.now → result ≡ answer 32 (listed 1 row.now) address }
 {
-    table::lookup(row, address)
+    word_of(table::lookup(row, address))
 }
 
 // Puts a route, or replaces the one of the same prefix.
@@ -77,7 +78,7 @@ pub extern "C" fn jeghrumo_make_anew(row: &mut [u32]) -> bool
     ensures front { Front 1 row.old row.new }
     ensures right { Sound 1 row.old → (result ≡ true) × Right 1 row.new }
 {
-    table::make_anew(row)
+    table::make_anew(row).is_ok()
 }
 
 // How many nodes the trie has.

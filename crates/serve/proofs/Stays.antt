@@ -20,7 +20,7 @@ unchanged old new e = subst (Right 1) (sym e)
 
 put_right : (number : ℕ) (old new : List ℕ) (r : Route) (done : Done) → PutEntrySays number old new r done → Right 1 old → Right 1 new
 put_right zero old new r done h right = ⊎_elim (λ (s : (done ≡ Ready) × PutDone 1 old new r). s.1.right) (λ (s : (done ≡ Full) × PutFull 1 old new r). unchanged old new s.1.same right) (h right)
-put_right (suc number) old new r done h right = unchanged old new h.1 right
+put_right (suc number) old new r done h right = unchanged old new h.3 right
 
 pub change_right : (old new : List ℕ) (c : Change) (done : Done) → ApplySays old new c done → Right 1 old → Right 1 new
 change_right old new (change.Put bits len hop) done h right = put_right (refusal bits len hop) old new (route_of bits len hop) done h right

@@ -1,5 +1,5 @@
 -- What a command and a line make of a table, and what is replied. Assumes nothing: these are definitions.
-use Rattle.std.specs.Prelude.{◌≡◌, ℕ, zero, suc, cond, ◌⊎◌, List, [], length, Some, None, Ok, Err, Option, Result, nat_le}
+use Rattle.std.specs.Prelude.{◌≡◌, ℕ, zero, suc, ◌⊎◌, List, [], length, Some, None, Ok, Err, Option, Result}
 use Rattle.prefix.specs.Routes.{answer}
 use Rattle.beneath.specs.Parts.{SpanSays}
 use Rattle.table.specs.Right.{Right, room, listed, nodes}
@@ -9,6 +9,7 @@ use Rattle.table.specs.declared.entries.Change.{Change}
 use Rattle.table.specs.declared.entries.Change.TheVariants as change
 use Rattle.table.specs.declared.entries.Done.{Done}
 use Rattle.table.specs.declared.entries.Done.TheVariants as done
+use Rattle.table.specs.declared.entries.Refusal.TheVariants as refusal
 use Rattle.text.specs.declared.lines.Command.TheVariants as basic
 use Rattle.text.specs.declared.refusals.Refusal.{Refusal}
 use Rattle.text.specs.declared.refusals.Refusal.TheVariants.{Prefix, Hop}
@@ -25,14 +26,15 @@ abbrev pub told : ℕ → Reply
 told zero = Nowhere
 told (suc hop) = To hop
 
--- what is replied to what an entry answers; refusal 1 is of the length, any other of the hop
+-- what is replied to what an entry answers; a refusal is of the length, or of the hop
 abbrev pub reply_of : Done → (len hop : ℕ) → Reply
 reply_of (done.To to) len hop = To to
 reply_of done.Nowhere len hop = Nowhere
 reply_of done.Ready len hop = Ready
 reply_of done.Full len hop = Full
 reply_of done.Without len hop = Without
-reply_of (done.Refused number) len hop = Refused (cond (nat_le number 1) (Prefix len) (Hop hop))
+reply_of (done.Refused refusal.Prefix) len hop = Refused (Prefix len)
+reply_of (done.Refused refusal.Hop) len hop = Refused (Hop hop)
 
 -- a change is carried out as its entry says, and that is replied
 pub record Changes (old new : List ℕ) (change : Change) (len hop : ℕ) (reply : Reply) : Type 0 where

@@ -119,7 +119,7 @@ fn beneath(row: &[u32], bits: u32, len: u64) -> Reply
     Reply::Beneath { from, to }
 }
 
-// What is said of a change. A refusal names its place: 1 the length, 2 the hop.
+// What is said of a change. A refusal names its place: the length, or the hop.
 fn replied(done: Done, len: u64, hop: u64) -> Reply
     ensures { result ≡ reply_of done len hop }
 {
@@ -129,13 +129,7 @@ fn replied(done: Done, len: u64, hop: u64) -> Reply
         Done::Ready => Reply::Ready,
         Done::Full => Reply::Full,
         Done::Without => Reply::Without,
-        Done::Refused(number) => {
-            let refusal = if number <= 1 {
-                Refusal::Prefix { len }
-            } else {
-                Refusal::Hop { hop }
-            };
-            Reply::Refused(refusal)
-        }
+        Done::Refused(table::Refusal::Prefix) => Reply::Refused(Refusal::Prefix { len }),
+        Done::Refused(table::Refusal::Hop) => Reply::Refused(Refusal::Hop { hop }),
     }
 }

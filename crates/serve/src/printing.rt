@@ -7,6 +7,7 @@ ghost use Rattle.serve.specs.Replies.{written, lines, between, route_line};
 
 use crate::replies::Reply;
 use prefix::Prefix;
+use routes::List;
 use std::fmt;
 use text::Dotted;
 
@@ -57,8 +58,9 @@ fn write_routes<W: fmt::Write>(
 ) -> fmt::Result
     ensures { WritesOnOk W.write_str_gives f.old result (lines opening.now (between from to (routes 1 3 row.now))) f.new }
 {
+    let list = List::over(row, 3);
     for k in from..to {
-        let Some((prefix, hop)) = routes::route::<u32>(row, 3, k) else {
+        let Some((prefix, hop)) = list.route(k) else {
             break;
         };
         write_route(f, opening, prefix, hop)?;

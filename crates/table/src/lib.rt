@@ -12,7 +12,9 @@ mod parts;
 mod tables;
 mod words;
 
-pub use entries::{Change, Done, apply, carry_out, look, make_anew, nodes, put_entry, take_away};
+pub use entries::{
+    Change, Done, Refusal, apply, carry_out, look, make_anew, nodes, put_entry, take_away,
+};
 pub use makes::{Misfit, make_empty, row_length};
 pub use parts::lookup;
 pub use tables::Table;

@@ -16,7 +16,7 @@ pub loop-k-preserved : goal.loop-k-preserved
 loop-k-preserved g c =
     let rs = routes 1 3 c.args.row.now in
     let opening = c.args.opening.now in
-    let held = c.in-Some.ensures in
+    let held = rw (c.over-list.ensures.row, c.over-list.ensures.stride) at c.in-Some.ensures in
     let from : c.args.from ≤ c.loop-k.k = c.loop-k.invariant.0 in
     let line = ap (λ (r : Route). lines opening (between c.args.from c.loop-k.k rs) ++ route_line opening r) (sym held.1) in
     let more = lines_more opening rs c.args.from c.loop-k.k from held.0 in (
@@ -35,4 +35,5 @@ returns-after-loop-k g c plain ok =
 
 pub returns-in_default : goal.returns-in_default
 returns-in_default g c plain ok =
-    subst (λ (l : List ℕ). HasWritten g.W.Write.write_str_gives c.args.f.now l c.loop-k.f) (lines_all c.args.opening.now (routes 1 3 c.args.row.now) c.args.from c.loop-k.k c.args.to c.in_default.ensures (omega arith)) (c.loop-k.invariant.2 plain)
+    let past = rw (c.over-list.ensures.row, c.over-list.ensures.stride) at c.in_default.ensures in
+    subst (λ (l : List ℕ). HasWritten g.W.Write.write_str_gives c.args.f.now l c.loop-k.f) (lines_all c.args.opening.now (routes 1 3 c.args.row.now) c.args.from c.loop-k.k c.args.to past (omega arith)) (c.loop-k.invariant.2 plain)
