@@ -1,7 +1,7 @@
 // Changes by chance: routes that lie in one another, for the most part.
 use crate::chance::Chance;
 use prefix::Prefix;
-use routes::Extent;
+use routes::{Extent, List};
 use table::Change;
 
 // A route to be put: one in three anywhere, the others above or below a route that is there.
@@ -45,7 +45,7 @@ pub(crate) fn held_route(row: &[u32], chance: &mut Chance) -> Option<Prefix<u32>
     if count == 0 {
         return None;
     }
-    let (held, _) = routes::route::<u32>(row, 3, (chance.next() % count) as usize)?;
+    let (held, _) = List::<u32>::over(row, 3).route((chance.next() % count) as usize)?;
     Some(held)
 }
 

@@ -2,7 +2,7 @@
 use crate::chance::Chance;
 use crate::draws;
 use prefix::Prefix;
-use routes::Extent;
+use routes::{Extent, List};
 use table::{Change, Done};
 
 // How many changes stir a full table.
@@ -125,7 +125,7 @@ fn compare(row: &[u32], address: u32, compared: &mut Compared) {
         Done::To(hop) => Some(hop),
         _ => None,
     };
-    let by_list = match routes::scan(row, 3, address) {
+    let by_list = match List::over(row, 3).scan(address) {
         Some(hop) => Some(hop as u64),
         None => None,
     };
@@ -149,7 +149,7 @@ fn compare_beneath(row: &[u32], bits: u32, len: u64, compared: &mut Compared) {
 }
 
 fn lies_beneath(row: &[u32], prefix: Prefix<u32>, k: usize) -> bool {
-    match routes::route::<u32>(row, 3, k) {
+    match List::<u32>::over(row, 3).route(k) {
         Some((held, _)) => prefix.covers(held),
         None => false,
     }
@@ -163,6 +163,6 @@ fn compare_anew(row: &[u32], anew: &mut [u32], compared: &mut Compared) {
         return;
     }
     anew[..end].copy_from_slice(&row[..end]);
-    let made = table::make_anew(anew);
+    let made = table::make_anew(anew).is_ok();
     compared.note(made && table::nodes(anew) == table::nodes(row));
 }

@@ -1,7 +1,7 @@
 // Random nested routes put, replaced and taken away; after each change the trie is compared with the plain scan of the list.
 use crate::chance::Chance;
 use prefix::Prefix;
-use routes::Extent;
+use routes::{Extent, List};
 use std::alloc::Global;
 use table::{Change, Done};
 
@@ -65,7 +65,7 @@ fn any_change(row: &[u32], chance: &mut Chance) -> Change {
 fn drawn_route(row: &[u32], chance: &mut Chance) -> Option<Prefix<u32>> {
     let count = Extent::of::<u32>(row, 3).count as u32;
     let k = chance.next() % count.saturating_add(1).max(1);
-    let (held, _) = routes::route::<u32>(row, 3, k as usize)?;
+    let (held, _) = List::<u32>::over(row, 3).route(k as usize)?;
     Some(held)
 }
 
@@ -110,7 +110,7 @@ fn compare_around(row: &[u32], chance: &mut Chance, change: Change, run: &mut Ru
 }
 
 fn compare(row: &[u32], address: u32, run: &mut Run) {
-    let by_list = match routes::scan(row, 3, address) {
+    let by_list = match List::over(row, 3).scan(address) {
         Some(hop) => hop as u64 + 1,
         None => 0,
     };
@@ -127,7 +127,7 @@ fn compare(row: &[u32], address: u32, run: &mut Run) {
 // A table made anew has as many nodes.
 fn compare_anew(row: &mut [u32], run: &mut Run) {
     let before = table::nodes(row);
-    let made = table::make_anew(row);
+    let made = table::make_anew(row).is_ok();
     run.compared = run.compared.saturating_add(1);
     if !made || table::nodes(row) != before {
         run.differences = run.differences.saturating_add(1);
