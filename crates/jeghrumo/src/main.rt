@@ -43,8 +43,7 @@ fn answer<W: Write>(
     line: &[u8],
     number: u64,
 ) -> io::Result<()>
-    requires { Right 1 row.old.items }
-    ensures { Right 1 row.new.items }
+    ensures { Right 1 row.old.items → Right 1 row.new.items }
 {
     let Some(reply) = serve::follow(heap, row, read(line, number)) else {
         return Ok(());

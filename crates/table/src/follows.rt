@@ -19,8 +19,8 @@ pub(crate) fn enter<K: Key>(table: &mut [u32], prefix: Prefix<K>) -> Option<()>
         parts.set_default(prefix);
         return Some(());
     }
-    let node = parts.make_way(prefix)?;
-    parts.renew_words(node, prefix)
+    let way = parts.make_way(prefix)?;
+    parts.renew_words(&way)
 }
 
 // The last route of a list in order has come: the same, without a search.
@@ -34,8 +34,8 @@ pub(crate) fn enter_last<K: Key>(table: &mut [u32], prefix: Prefix<K>, hop: u32)
         parts.set_default(prefix);
         return Some(());
     }
-    let node = parts.make_way(prefix)?;
-    parts.write_last(node, prefix, hop)
+    let way = parts.make_way(prefix)?;
+    parts.write_last(&way, hop)
 }
 
 // A prefix has gone from the list: its words say what is next longest, and the nodes that have become empty are given back. None where the row is damaged or a hint fails: the trie is then to be made anew.
@@ -49,7 +49,7 @@ pub(crate) fn leave<K: Key>(table: &mut [u32], prefix: Prefix<K>) -> Option<()>
         parts.set_default(prefix);
         return Some(());
     }
-    let node = parts.way_end(prefix)?;
-    parts.renew_words(node, prefix)?;
+    let way = parts.way_end(prefix)?;
+    parts.renew_words(&way)?;
     parts.give_back(prefix)
 }

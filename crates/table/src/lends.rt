@@ -26,6 +26,15 @@ pub(crate) struct Parts<'a, K: Key> {
     ghost inside: { at + 2 ≤ length row.now },
 }
 
+// The last node of the way to a prefix that the trie can have: one of some bits, and not of more than a key.
+#[derive(Drop)]
+pub(crate) struct Way<K: Key> {
+    pub prefix: Prefix<K>,
+    pub node: u32,
+    pub ghost some: { 0 < prefix.len },
+    pub ghost short: { prefix.len ≤ width K.Key.words },
+}
+
 impl<'a, K: Key> Parts<'a, K> {
     // The parts of a row whose default stands at a place.
     pub(crate) fn over(row: &'a mut [u32], at: usize) -> Parts<'a, K>
@@ -57,61 +66,59 @@ impl<'a, K: Key> Parts<'a, K> {
         held(self.row, prefix)
     }
 
-    // The words of the cells that the mask marks, in the last node of the way to a prefix.
-    fn words_of(&self, prefix: Prefix<K>, mask: u16) -> [u32; 16]
-        requires some { 0 < prefix.len }
-        requires short { prefix.len ≤ width K.Key.words }
-        ensures { InOrder (listed K.Key.words self.now.row.now) → good (width K.Key.words) (listed K.Key.words self.now.row.now) ≡ true → Says (hops (width K.Key.words) (listed K.Key.words self.now.row.now)) prefix.len (first (width K.Key.words) prefix.len (K.Key.num prefix.bits)) (depth_of prefix.len) mask result }
+    // The words of the cells that the mask marks, in a way's last node.
+    fn words_of(&self, way: &Way<K>, mask: u16) -> [u32; 16]
+        ensures { InOrder (listed K.Key.words self.now.row.now) → good (width K.Key.words) (listed K.Key.words self.now.row.now) ≡ true → Says (hops (width K.Key.words) (listed K.Key.words self.now.row.now)) way.now.prefix.len (first (width K.Key.words) way.now.prefix.len (K.Key.num way.now.prefix.bits)) (depth_of way.now.prefix.len) mask result }
     {
-        words_of(self.row, prefix, mask)
+        words_of(self.row, way, mask)
     }
 
     // Makes the way to a prefix, and answers its last node.
-    pub(crate) fn make_way(&mut self, prefix: Prefix<K>) -> Option<u32>
+    pub(crate) fn make_way(&mut self, prefix: Prefix<K>) -> Option<Way<K>>
         ensures beside { Beside K.Key.words self.old.row.now self.new.row.now }
-        ensures way { (m : Hops) → TrieOf (width K.Key.words) m (trie K.Key.words self.old.row.now) (nodes K.Key.words self.old.row.now) → 0 < prefix.len → prefix.len ≤ width K.Key.words → IfSome result (λ n. WayMade (width K.Key.words) m prefix.len (first (width K.Key.words) prefix.len (K.Key.num prefix.bits)) (trie K.Key.words self.new.row.now) (nodes K.Key.words self.new.row.now) n) }
+        ensures way { (m : Hops) → TrieOf (width K.Key.words) m (trie K.Key.words self.old.row.now) (nodes K.Key.words self.old.row.now) → 0 < prefix.len → prefix.len ≤ width K.Key.words → IfSome result (λ way. WayMade (width K.Key.words) m prefix.len (first (width K.Key.words) prefix.len (K.Key.num prefix.bits)) (trie K.Key.words self.new.row.now) (nodes K.Key.words self.new.row.now) way.node) }
         ensures enough { (m : Hops) → Mapped K.Key.words self.old.row.now m → 0 < prefix.len → prefix.len ≤ width K.Key.words → Apart m (hops (width K.Key.words) (listed K.Key.words self.old.row.now)) prefix.len (first (width K.Key.words) prefix.len (K.Key.num prefix.bits)) → hops (width K.Key.words) (listed K.Key.words self.old.row.now) prefix.len (first (width K.Key.words) prefix.len (K.Key.num prefix.bits)) ≢ 0 → is_some result ≡ true }
-        ensures fits { is_some result ≡ true → (0 < prefix.len) × (prefix.len ≤ width K.Key.words) }
+        ensures its { IfSome result (λ way. way.prefix ≡ prefix) }
         ensures lent { self.new.row.ghost_name ≡ self.old.row.ghost_name }
     {
         let count = self.row[self.at + 1];
         let hints = hints_place::<K>(self.row[1]);
         let place = grow::make_way(&mut self.row[self.at + 2..], count, hints, prefix)?;
         self.row[self.at + 1] = place.count;
-        Some(place.node)
+        Some(Way {
+            prefix,
+            node: place.node,
+        })
     }
 
     // The last node of the way to a prefix that is there.
-    pub(crate) fn way_end(&self, prefix: Prefix<K>) -> Option<u32>
-        ensures end { (m : Hops) → TrieOf (width K.Key.words) m (trie K.Key.words self.now.row.now) (nodes K.Key.words self.now.row.now) → 0 < prefix.len → prefix.len ≤ width K.Key.words → m prefix.len (first (width K.Key.words) prefix.len (K.Key.num prefix.bits)) ≢ 0 → MatchOption result ⊥ (λ n. WayFound (width K.Key.words) m prefix.len (first (width K.Key.words) prefix.len (K.Key.num prefix.bits)) (trie K.Key.words self.now.row.now) (nodes K.Key.words self.now.row.now) n) }
-        ensures fits { is_some result ≡ true → (0 < prefix.len) × (prefix.len ≤ width K.Key.words) }
+    pub(crate) fn way_end(&self, prefix: Prefix<K>) -> Option<Way<K>>
+        ensures end { (m : Hops) → TrieOf (width K.Key.words) m (trie K.Key.words self.now.row.now) (nodes K.Key.words self.now.row.now) → 0 < prefix.len → prefix.len ≤ width K.Key.words → m prefix.len (first (width K.Key.words) prefix.len (K.Key.num prefix.bits)) ≢ 0 → MatchOption result ⊥ (λ way. WayFound (width K.Key.words) m prefix.len (first (width K.Key.words) prefix.len (K.Key.num prefix.bits)) (trie K.Key.words self.now.row.now) (nodes K.Key.words self.now.row.now) way.node) }
+        ensures its { IfSome result (λ way. way.prefix ≡ prefix) }
     {
-        grow::way_end(&self.row[self.at + 2..], self.row[self.at + 1], prefix)
+        let node = grow::way_end(&self.row[self.at + 2..], self.row[self.at + 1], prefix)?;
+        Some(Way { prefix, node })
     }
 
     // Makes the words of a prefix's cells new, from the list.
-    pub(crate) fn renew_words(&mut self, node: u32, prefix: Prefix<K>) -> Option<()>
-        requires some { 0 < prefix.len }
-        requires short { prefix.len ≤ width K.Key.words }
-        ensures renewed { Renewed K.Key.words self.old.row.now self.new.row.now prefix.len (first (width K.Key.words) prefix.len (K.Key.num prefix.bits)) node (is_some result) }
+    pub(crate) fn renew_words(&mut self, way: &Way<K>) -> Option<()>
+        ensures renewed { Renewed K.Key.words self.old.row.now self.new.row.now way.now.prefix.len (first (width K.Key.words) way.now.prefix.len (K.Key.num way.now.prefix.bits)) way.now.node (is_some result) }
         ensures lent { self.new.row.ghost_name ≡ self.old.row.ghost_name }
     {
-        let mask = grow::cells(prefix);
-        let words = self.words_of(prefix, mask);
-        grow::write_words(&mut self.row[self.at + 2..], node, mask, &words)
+        let mask = grow::cells(way.prefix);
+        let words = self.words_of(way, mask);
+        grow::write_words(&mut self.row[self.at + 2..], way.node, mask, &words)
     }
 
     // The same for the last route of a list in order, without a search: its word goes into all of its prefix's cells, since a longer route that shares one would come later.
-    pub(crate) fn write_last(&mut self, node: u32, prefix: Prefix<K>, hop: u32) -> Option<()>
-        requires some { 0 < prefix.len }
-        requires short { prefix.len ≤ width K.Key.words }
+    pub(crate) fn write_last(&mut self, way: &Way<K>, hop: u32) -> Option<()>
         ensures beside { Beside K.Key.words self.old.row.now self.new.row.now }
-        ensures renewed { Last K.Key.words self.old.row.now (K.Key.num prefix.bits) prefix.len hop → Renewed K.Key.words self.old.row.now self.new.row.now prefix.len (first (width K.Key.words) prefix.len (K.Key.num prefix.bits)) node (is_some result) }
+        ensures renewed { Last K.Key.words self.old.row.now (K.Key.num way.now.prefix.bits) way.now.prefix.len hop → Renewed K.Key.words self.old.row.now self.new.row.now way.now.prefix.len (first (width K.Key.words) way.now.prefix.len (K.Key.num way.now.prefix.bits)) way.now.node (is_some result) }
         ensures lent { self.new.row.ghost_name ≡ self.old.row.ghost_name }
     {
-        let mask = grow::cells(prefix);
+        let mask = grow::cells(way.prefix);
         let words = [word_of(Some(hop)); 16];
-        grow::write_words(&mut self.row[self.at + 2..], node, mask, &words)
+        grow::write_words(&mut self.row[self.at + 2..], way.node, mask, &words)
     }
 
     // Gives the nodes back that have become empty on the way to a prefix.

@@ -9,17 +9,16 @@ ghost use Rattle.grow.specs.Ways.{depth_of};
 ghost use Rattle.grow.specs.Cells.{bit, Says};
 ghost use Rattle.table.specs.Words.{down};
 
+use crate::lends::Way;
 use crate::parts::held;
 use prefix::{Key, Prefix};
 
-// The words of the cells that the mask marks, in the last node of the way to a prefix; 0 for the others.
-pub(crate) fn words_of<K: Key>(table: &[u32], prefix: Prefix<K>, mask: u16) -> [u32; 16]
-    requires some { 0 < prefix.len }
-    requires short { prefix.len ≤ width K.Key.words }
-    ensures { InOrder (listed K.Key.words table.now) → good (width K.Key.words) (listed K.Key.words table.now) ≡ true → Says (hops (width K.Key.words) (listed K.Key.words table.now)) prefix.len (first (width K.Key.words) prefix.len (K.Key.num prefix.bits)) (depth_of prefix.len) mask result }
+// The words of the cells that the mask marks, in a way's last node; 0 for the others.
+pub(crate) fn words_of<K: Key>(table: &[u32], way: &Way<K>, mask: u16) -> [u32; 16]
+    ensures { InOrder (listed K.Key.words table.now) → good (width K.Key.words) (listed K.Key.words table.now) ≡ true → Says (hops (width K.Key.words) (listed K.Key.words table.now)) way.now.prefix.len (first (width K.Key.words) way.now.prefix.len (K.Key.num way.now.prefix.bits)) (depth_of way.now.prefix.len) mask result }
 {
-    let depth = (prefix.len - 1) / 4;
-    let path = prefix.bits.first(4 * depth);
+    let depth = (way.prefix.len - 1) / 4;
+    let path = way.prefix.bits.first(4 * depth);
     let mut words = [0; 16];
     for k in 0..16u32 {
         words[k as usize] = word(table, path, depth, mask, k);

@@ -19,10 +19,10 @@ returns-clause-front g c =
 
 pub returns-clause-right : goal.returns-clause-right
 returns-clause-right g c =
-    let n = rw c.over-parts.ensures.same at c.in_ok-renew_words.ensures.renewed in
-    let found = rw c.over-parts.ensures.same at c.in_ok-node.ensures.end in
+    let n = rw (c.over-parts.ensures.same, c.in_ok-way.ensures.its) at c.in_ok-renew_words.ensures.renewed in
+    let found = rw c.over-parts.ensures.same at c.in_ok-way.ensures.end in
     of_same (λ (t : List ℕ). Left g.K.Key.words c.args.table.now t c.args.prefix.len (g.K.Key.num c.args.prefix.bits) (is_some c.give_back.result)) _ c.give_back.new.self.row.now (search rules)
     (λ m r good apart there done.
-    left g.K.Key.words c.args.table.now m r c.args.prefix.len _ (omega arith) apart c.renew_words.new.self.row.now c.give_back.new.self.row.now c.in_ok-node.node there
+    left g.K.Key.words c.args.table.now m r c.args.prefix.len _ (omega arith) apart c.renew_words.new.self.row.now c.give_back.new.self.row.now c.in_ok-way.way.node there
     (found m r.trie_is (omega arith) (good_short (width g.K.Key.words) c.args.prefix.len _ good) there) n c.give_back.ensures.beside
     (g.K.Key.num c.args.prefix.bits) refl (λ way. c.give_back.ensures.right _ way done))

@@ -17,5 +17,5 @@ loop-k-preserved g c = (
 
 pub returns : goal.returns
 returns g c order good k h mark =
-    let same : g.K.Key.num c.first-path.result ≡ _ = c.first-path.ensures.value ∙ sym (path_first (width g.K.Key.words) c.args.prefix.len (g.K.Key.num c.args.prefix.bits) c.requires.some c.requires.short) in
+    let same : g.K.Key.num c.first-path.result ≡ _ = c.first-path.ensures.value ∙ sym (path_first (width g.K.Key.words) c.args.way.now.prefix.len (g.K.Key.num c.args.way.now.prefix.bits) c.args.way.now.some c.args.way.now.short) in
     rw (← same) (c.loop-k.invariant.1 order good k (omega arith) mark)

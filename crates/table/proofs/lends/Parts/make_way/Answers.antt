@@ -1,5 +1,5 @@
 -- The nodes are lent on, and come back with the way made.
-use Rattle.std.proofs.Common.{◌+◌, true≢false, sym, refl}
+use Rattle.std.proofs.Common.{◌+◌, refl}
 use Rattle.table.specs.Right.{listed}
 use Rattle.table.proofs.Lent.{lent_tail, lent_beside, tail_beside, tail_nodes, tail_trie, part_is, count_is}
 use Rattle.table.proofs.Means.{nodes_fit}
@@ -17,7 +17,7 @@ returns-in_err-place g c =
       enough = λ m mapped some short apart there.
           let fit = nodes_fit g.K.Key.words c.args.self.now.row.now m mapped in
           rw c.from_residual.ensures (enough m (listed g.K.Key.words c.args.self.now.row.now) mapped.trie_is some short apart there fit.0 fit.1);
-      fits = λ e. absurd (true≢false (sym (rw c.from_residual.ensures at e)));
+      its = rw c.from_residual.ensures tt;
       lent = refl;
     }
 
@@ -33,6 +33,6 @@ returns g c =
       beside = tail_beside g.K.Key.words c.args.self.now.at c.in_ok-place.place.count c.args.self.now.row.now _ _ c.args.self.now.place t;
       way = λ m held some short. rw (part, count) (way m held some short);
       enough = λ m mapped some short apart there. refl;
-      fits = λ e. c.in_ok-place.ensures.fits refl;
+      its = refl;
       lent = refl;
     }

@@ -15,7 +15,7 @@ returns g c =
         fits = rw p at c.write_words.ensures.fits;
         mask = c.cells-mask.result;
         said = c.words_of-words.result;
-        cells = c.cells-mask.ensures.bits c.requires.some c.requires.short;
+        cells = c.cells-mask.ensures.bits c.args.way.now.some c.args.way.now.short;
         says = c.words_of-words.ensures;
         written = λ done. rw part (rw p at (c.write_words.ensures.written done));
       };

@@ -13,7 +13,7 @@ returns g c =
     let p = part_is g.K.Key.words c.args.self.now.at c.args.self.now.row.now c.args.self.now.place in
     let part = lent_trie g.K.Key.words c.args.self.now.at c.args.self.now.row.now _ _ c.args.self.now.place t in
     let beside = lent_beside g.K.Key.words c.args.self.now.at c.args.self.now.row.now _ _ c.args.self.now.place t in
-    let cells = c.cells-mask.ensures.bits c.requires.some c.requires.short in
+    let cells = c.cells-mask.ensures.bits c.args.way.now.some c.args.way.now.short in
     record {
       beside = beside;
       renewed = λ last.
@@ -25,8 +25,8 @@ returns g c =
             said = replicate 16 c.word_of-words.result;
             cells = cells;
             says = λ order good k h mark.
-                let word = last_word (width g.K.Key.words) (listed g.K.Key.words c.args.self.now.row.now) last.place (g.K.Key.num c.args.prefix.bits) c.args.prefix.len c.args.hop good order last.ends last.is _ _ ((cells k h).0 mark) in
-                let low = last_fits (width g.K.Key.words) (listed g.K.Key.words c.args.self.now.row.now) last.place (g.K.Key.num c.args.prefix.bits) c.args.prefix.len c.args.hop good order last.ends last.is in
+                let word = last_word (width g.K.Key.words) (listed g.K.Key.words c.args.self.now.row.now) last.place (g.K.Key.num c.args.way.now.prefix.bits) c.args.way.now.prefix.len c.args.hop good order last.ends last.is _ _ ((cells k h).0 mark) in
+                let low = last_fits (width g.K.Key.words) (listed g.K.Key.words c.args.self.now.row.now) last.place (g.K.Key.num c.args.way.now.prefix.bits) c.args.way.now.prefix.len c.args.hop good order last.ends last.is in
                 get_or-replicate 16 k c.word_of-words.result 0 h ∙ c.word_of-words.ensures (omega arith) ∙ sym word;
             written = λ done. rw part (rw p at (c.write_words.ensures.written done));
           };
