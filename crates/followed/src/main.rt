@@ -31,7 +31,7 @@ fn run(rt: &HostRuntime) -> anyhow::Result<()> {
     Ok(())
 }
 
-// Follows one file; `-` is standard input.
+// Follows one file; `-` is standard input. `Right` is asked of these three functions, and not put into a type: `serve` takes rows that are no right tables too, and a type would refuse them.
 fn follow_file(rt: &HostRuntime, row: &mut Vec<u32>, name: &str) -> anyhow::Result<()>
     requires { Right 1 row.old.items }
     ensures { Right 1 row.new.items }
@@ -67,6 +67,7 @@ fn follow<R: Read + Drop>(
 {
     let mut out = BufWriter::new(rt.alloc(), rt.stdout())?;
     let mut line = Vec::new(rt.alloc());
+    // Counted, since nothing says that an input ends.
     for number in 0..u64::MAX {
         if !serve::next_line(&mut input, &mut out, &mut line)? {
             break;

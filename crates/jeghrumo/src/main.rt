@@ -25,6 +25,7 @@ fn run(rt: &HostRuntime) -> anyhow::Result<()> {
     let mut input = BufReader::new(heap, rt.stdin())?;
     let mut out = BufWriter::new(heap, rt.stdout())?;
     let mut line = Vec::new(heap);
+    // Counted, since nothing says that an input ends.
     for number in 0..u64::MAX {
         if !serve::next_line(&mut input, &mut out, &mut line)? {
             break;

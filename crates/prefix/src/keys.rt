@@ -27,6 +27,7 @@ pub trait Key: Copy + Drop + Ord {
         ensures before { (k : ℕ) → k < at → slice_index row.new k ≡ slice_index row.old k }
         ensures behind { (k : ℕ) → at + words ≤ k → slice_index row.new k ≡ slice_index row.old k };
 
+    // Beside `==`, so that no key has to be made of 0.
     fn is_zero(self) -> bool
         ensures { result ≡ (num self == 0) };
 

@@ -1,4 +1,4 @@
-// Changes of the list in place: what stands behind the change is lent on and shifted, in one piece.
+// Changes of the list in place: what stands behind the change is lent on and shifted, in one piece. They take the row and its stride, and no struct: one that held the `&mut` would owe a clause more in each function, and its caller one more call, and nothing here needs the row twice.
 ghost use Rattle.std.specs.Prelude.{◌≡◌, ℕ, suc, ◌+◌, ◌-◌, ◌<◌, ◌≤◌, length, slice_index, slice_set};
 ghost use Rattle.prefix.specs.Words.{loaded};
 ghost use Rattle.prefix.specs.Routes.{route_of};

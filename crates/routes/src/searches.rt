@@ -26,6 +26,7 @@ impl<'a, K: Key> List<'a, K> {
         requires { F.IsAlwaysCallable is_left }
         ensures { Parts (routes K.Key.words self.now.stride self.now.row.now) from result (λ r told. (p : _) × (route_of (K.Key.num p.bits) p.len r.hop ≡ r) × F.post is_left p told) }
     {
+        // Halved by hand: the library halves slices, and a row is no slice of routes.
         let mut low = from;
         let mut high = self.extent().count;
         while low < high {

@@ -43,6 +43,7 @@ fn enter_all<K: Key>(table: &mut [u32], count: u32) -> Option<()>
     ensures alike { Alike K.Key.words table.old table.new }
     ensures right { (whole : List ℕ) → Sound K.Key.words whole → count ≡ slice_index whole 0 → Begun K.Key.words whole table.old 0 → (is_some result ≡ true) × Begun K.Key.words whole table.new count }
 {
+    // By number: each turn writes how many routes there are so far.
     for k in 0..count {
         enter_next::<K>(table, k)?;
     }

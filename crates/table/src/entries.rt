@@ -19,7 +19,7 @@ pub enum Refusal {
     Hop = 2,
 }
 
-// What an entry answers.
+// What an entry answers: one type for all of them, so that a program and a caller in C have one list of answers.
 #[derive(Clone, Copy, PartialEq, Eq)]
 pub enum Done {
     To(u64),

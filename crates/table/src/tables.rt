@@ -12,6 +12,7 @@ use crate::entries::{Change, Done};
 use crate::makes::Misfit;
 use routes::Extent;
 
+// It has no model: its owner learns what the row holds afterwards by which row it is, and a model would hide that.
 #[derive(Drop)]
 pub struct Table<'a> {
     row: &'a mut [u32],

@@ -20,6 +20,7 @@ pub(crate) fn words_of<K: Key>(table: &[u32], way: &Way<K>, mask: u16) -> [u32; 
     let depth = (way.prefix.len - 1) / 4;
     let path = way.prefix.bits.first(4 * depth);
     let mut words = [0; 16];
+    // By number: of what `array::from_fn` or an adapter of `iter_mut` wrote a proof does not learn enough (tried).
     for k in 0..16u32 {
         words[k as usize] = word(table, path, depth, mask, k);
     }
@@ -40,7 +41,7 @@ fn word<K: Key>(table: &[u32], path: K, depth: u32, mask: u16, k: u32) -> u32
     }
 }
 
-// One more than the hop of the longest route of at most `len` and more than `len - more` bits whose prefix the path begins with; 0 where there is none.
+// What a cell holds: one more than the hop of the longest route of at most `len` and more than `len - more` bits whose prefix the path begins with; 0 where there is none.
 fn longest_of<K: Key>(table: &[u32], path: K, len: u32, more: u32) -> u32
     requires short { len ≤ width K.Key.words }
     requires below { K.Key.num path < 2 ^ len }

@@ -32,7 +32,7 @@ impl<'a> Trie<'a> {
     }
 }
 
-// The first number, or the second where that is 0.
+// The first number, or the second where that is 0. A hop or none stays the number that cells hold until the lookup ends: an option would be made and taken apart at each step.
 fn or_else(a: u32, b: u32) -> u32
     ensures { result ≡ or_else a b }
 {
