@@ -10,24 +10,6 @@ use Rattle.routes.proofs.edits.add_at.Goals as goal
 forward : (c-k stride count : ℕ) → c-k ≤ count → slot stride c-k ≤ slot stride count
 forward k stride count h = omega (arith, slots_rise stride k count h)
 
-pub slice_bounds-open_gap-count : goal.slice_bounds-open_gap-count
-slice_bounds-open_gap-count g c =
-    let low = count_low g.K.Key.words c.args.stride c.args.row.now in
-    let f = forward c.args.k c.args.stride (get_or c.args.row.now 0 0) (omega arith) in
-    omega arith
-
-pub slice_bounds-open_gap-start : goal.slice_bounds-open_gap-start
-slice_bounds-open_gap-start g c =
-    let low = count_low g.K.Key.words c.args.stride c.args.row.now in
-    let f = forward c.args.k c.args.stride (get_or c.args.row.now 0 0) (omega arith) in
-    search rules
-
-pub open_gap-requires : goal.open_gap-requires
-open_gap-requires g c =
-    let low = count_low g.K.Key.words c.args.stride c.args.row.now in
-    let f = forward c.args.k c.args.stride (get_or c.args.row.now 0 0) (omega arith) in
-    search rules
-
 pub returns : goal.returns
 returns g c =
     let low = count_low g.K.Key.words c.args.stride c.args.row.now in

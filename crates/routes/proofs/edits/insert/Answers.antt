@@ -32,13 +32,6 @@ returns-in-Ok g c =
       keeps = put_replaced _ _ _ c.in-Ok.k _ f r.list (ap (λ (x : Route). x.hop) (getD_routes g.K.Key.words c.args.stride c.args.row.now c.in-Ok.k less) ∙ sym was);
     }
 
-pub returns-then-count-room : goal.returns-then-count-room
-returns-then-count-room g c =
-    let m = rw (c.over-list.ensures.row, c.over-list.ensures.stride) at c.in-Err.ensures in
-    let e = rw (c.over-list.ensures.row, c.over-list.ensures.stride) at c.extent-count.ensures.count in
-    let f = rw (c.over-list.ensures.row, c.over-list.ensures.stride) at c.extent-count.ensures.room in
-    record { says = (c.in-Err.k, m, sym e ∙ c.if-count-room.true ∙ f, refl); keeps = m.none }
-
 pub returns-else-count-room : goal.returns-else-count-room
 returns-else-count-room g c =
     let m = rw (c.over-list.ensures.row, c.over-list.ensures.stride) at c.in-Err.ensures in

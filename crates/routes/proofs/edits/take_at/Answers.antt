@@ -10,24 +10,6 @@ use Rattle.routes.proofs.edits.take_at.Goals as goal
 forward : (k stride count : ℕ) → k < count → slot stride k ≤ slot stride (count - 1)
 forward k stride count h = omega (arith, slots_rise stride k (count - 1) (omega arith))
 
-pub slice_bounds-close_gap-count : goal.slice_bounds-close_gap-count
-slice_bounds-close_gap-count g c =
-    let low = count_low g.K.Key.words c.args.stride c.args.row.now in
-    let f = forward c.args.k c.args.stride (get_or c.args.row.now 0 0) (omega arith) in
-    omega arith
-
-pub slice_bounds-close_gap-start : goal.slice_bounds-close_gap-start
-slice_bounds-close_gap-start g c =
-    let low = count_low g.K.Key.words c.args.stride c.args.row.now in
-    let f = forward c.args.k c.args.stride (get_or c.args.row.now 0 0) (omega arith) in
-    search rules
-
-pub close_gap-requires : goal.close_gap-requires
-close_gap-requires g c =
-    let low = count_low g.K.Key.words c.args.stride c.args.row.now in
-    let f = forward c.args.k c.args.stride (get_or c.args.row.now 0 0) (omega arith) in
-    search rules
-
 pub returns : goal.returns
 returns g c =
     let low = count_low g.K.Key.words c.args.stride c.args.row.now in
