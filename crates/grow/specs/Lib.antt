@@ -1,3 +1,4 @@
--- The definitions of the crate: a prefix on its way down, and its cells as sixteen bits.
+-- The definitions of the crate: a prefix on its way down, its cells as sixteen bits, and a row that is written.
 pub mod Ways
 pub mod Cells
+pub mod Rows

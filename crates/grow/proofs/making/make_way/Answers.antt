@@ -1,19 +1,13 @@
--- The way begins at the root, with the whole prefix left.
-use Rattle.std.proofs.Common.{arith}
-use Rattle.grow.proofs.Ahead.{first_small, ahead_start}
-use Rattle.grow.proofs.Walks.{walk_start}
+-- What is said of the row lent holds of the row that comes back.
+use Rattle.std.proofs.Common.{ℕ, List, subst, rules}
+use Rattle.prefix.specs.Words.{width}
+use Rattle.prefix.specs.Routes.{first}
+use Rattle.grow.specs.Ways.{WayMade}
 use Rattle.grow.proofs.making.make_way.Goals as goal
 
-pub returns : goal.returns
-returns g c =
-    record {
-      way =
-          λ m h some short.
-          c.descend.ensures.way m _ _ 0 (ahead_start _ _ _ some short c.descend.ensures.small)
-          (walk_start _ _ h some (first_small _ _ _ short c.descend.ensures.small));
-      fits = λ e. (omega arith, omega arith);
-      enough =
-          λ m rs h some short apart n long small.
-          c.descend.ensures.enough m rs _ _ 0 (ahead_start _ _ _ some short c.descend.ensures.small)
-          (walk_start _ _ h some (first_small _ _ _ short c.descend.ensures.small)) apart n (record { long = long; small = small });
-    }
+pub returns-clause-way : goal.returns-clause-way
+returns-clause-way g c m h some short =
+    let w : ℕ = width g.K.Key.words in
+    let l : ℕ = c.args.prefix.len in
+    let q : ℕ = first w l (g.K.Key.num c.args.prefix.bits) in
+    subst (λ (t : List ℕ). WayMade w m l q t c.descend.new.self.count c.in_ok-node.node) (search rules) (c.in_ok-node.ensures.way m h)
