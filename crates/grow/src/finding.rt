@@ -3,9 +3,8 @@ ghost use Rattle.std.specs.Prelude.{◌≡◌, ℕ, ◌+◌, ◌-◌, ◌*◌, �
 ghost use Rattle.prefix.specs.Words.{width};
 ghost use Rattle.prefix.specs.Routes.{first};
 ghost use Rattle.prefix.specs.Map.{Hops};
-ghost use Rattle.trie.specs.Shape.{local, Deeper, TrieOf};
-ghost use Rattle.trie.specs.Places.{Walk};
-ghost use Rattle.grow.specs.Ways.{WayFound, Ahead};
+ghost use Rattle.trie.specs.Shape.{TrieOf};
+ghost use Rattle.grow.specs.Ways.{WayFound};
 
 use prefix::{Key, Prefix};
 
@@ -18,21 +17,9 @@ pub fn way_end<K: Key>(nodes: &[u32], count: u32, prefix: Prefix<K>) -> Option<u
     if count == 0 || prefix.len == 0 || prefix.len as usize > 32 * K::words() {
         return None;
     }
-    follow(nodes, count, 0, prefix.bits, prefix.len)
-}
-
-// Goes on from a node of the way, with what is left of the prefix.
-fn follow<K: Key>(
-    nodes: &[u32],
-    count: u32,
-    mut node: u32,
-    mut rest: K,
-    mut len: u32,
-) -> Option<u32>
-    ensures small { K.Key.num rest < 2 ^ width K.Key.words }
-    ensures below { node < count → IfSome result (λ n. n < count) }
-    ensures end { (m : Hops) (l q d : ℕ) → Ahead (width K.Key.words) l q d len (K.Key.num rest) → Walk (width K.Key.words) (local m) (Deeper m) l q d nodes.now count node → m l q ≢ 0 → MatchOption result ⊥ (λ n. WayFound (width K.Key.words) m l q nodes.now count n) }
-{
+    let mut node = 0;
+    let mut rest = prefix.bits;
+    let mut len = prefix.len;
     let mut nibble = rest.nibble();
     while len > 4 {
         node = named(nodes, count, node, nibble)?;

@@ -1,14 +1,53 @@
--- The way begins at the root, with the whole prefix left.
-use Rattle.std.proofs.Common.{arith}
-use Rattle.grow.proofs.Ahead.{first_small, ahead_start}
-use Rattle.grow.proofs.Walks.{root_walk}
+-- The way down, nibble by nibble: no node of it is missing.
+use Rattle.std.proofs.Common.{ℕ, ◌+◌, ◌<◌, ◌≤◌, sym, ◌∙◌, subst, arith}
+use Rattle.prefix.specs.Words.{width}
+use Rattle.prefix.specs.Routes.{first}
+use Rattle.prefix.proofs.Nibbles.{fits_width}
+use Rattle.trie.specs.Shape.{local, Deeper}
+use Rattle.trie.specs.Places.{Walk}
+use Rattle.grow.proofs.Ahead.{first_small, ahead_start, ahead_last, ahead_step, ahead_on}
+use Rattle.grow.proofs.Walks.{root_walk, step_found}
 use Rattle.grow.proofs.finding.way_end.Goals as goal
 
-pub returns : goal.returns
-returns g c =
-    let small = c.follow.ensures.small in
-    record {
-      below = c.follow.ensures.below (omega arith);
-      fits = λ e. (omega arith, omega arith);
-      end = λ m h some short n. c.follow.ensures.end m _ _ 0 (ahead_start _ _ _ some short small) (root_walk _ _ h some (first_small _ _ _ short small)) n;
-    }
+pub loop-len-init : goal.loop-len-init
+loop-len-init g c =
+    let w : ℕ = width g.K.Key.words in
+    let key = g.met.K.Key.some in
+    let small = fits_width w (g.K.Key.num c.args.prefix.bits) (omega arith) (omega (arith, c.nibble-nibble.ensures.value, c.nibble-nibble.ensures.below)) in
+    let some : 0 < c.args.prefix.len = omega arith in
+    let short : c.args.prefix.len ≤ w = omega arith in (
+      omega arith,
+      c.nibble-nibble.ensures.value,
+      c.nibble-nibble.ensures.below,
+      λ m h n. (0, ahead_start _ _ _ some short small, root_walk _ _ h some (first_small _ _ _ short small)),
+    )
+
+pub loop-len-preserved : goal.loop-len-preserved
+loop-len-preserved g c = (
+  c.in_ok-node.ensures.1,
+  c.nibble-nibble-in-loop-len.ensures.value,
+  c.nibble-nibble-in-loop-len.ensures.below,
+  λ m h n.
+      let w : ℕ = width g.K.Key.words in
+      let l : ℕ = c.args.prefix.len in
+      let q : ℕ = first w l (g.K.Key.num c.args.prefix.bits) in
+      let so = c.loop-len.invariant.3 m h n in
+      let more : 4 < c.loop-len.len = omega arith in
+      let y = step_found l q so.0 _ (omega (arith, so.1.whole)) so.2 n (c.loop-len.invariant.1 ∙ ahead_step so.1 more) in
+      (so.0 + 1, ahead_on so.1 more _ c.rest-rest.ensures, subst (λ (i : ℕ). Walk w (local m) (Deeper m) l q (so.0 + 1) c.args.nodes.now c.args.count i) (sym c.in_ok-node.ensures.0) y.1),
+)
+
+pub returns-in_err-node-clause-end : goal.returns-in_err-node-clause-end
+returns-in_err-node-clause-end g c m h some short n =
+    let so = c.loop-len.invariant.3 m h n in
+    let more : 4 < c.loop-len.len = omega arith in
+    let y = step_found _ _ so.0 _ (omega (arith, so.1.whole)) so.2 n (c.loop-len.invariant.1 ∙ ahead_step so.1 more) in
+    absurd (c.in_err-node.ensures (omega (arith, so.2.here, so.2.held.fits, c.loop-len.invariant.2)) y.0 y.1.here)
+
+pub returns-clause-end : goal.returns-clause-end
+returns-clause-end g c m h some short n =
+    let w : ℕ = width g.K.Key.words in
+    let l : ℕ = c.args.prefix.len in
+    let q : ℕ = first w l (g.K.Key.num c.args.prefix.bits) in
+    let so = c.loop-len.invariant.3 m h n in
+    subst (λ (d : ℕ). Walk w (local m) (Deeper m) l q d c.args.nodes.now c.args.count c.loop-len.node) (ahead_last so.1 (omega arith)) so.2
