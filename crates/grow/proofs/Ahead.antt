@@ -2,7 +2,7 @@
 use Rattle.std.proofs.Common.{◌≡◌, ℕ, ◌+◌, ◌-◌, ◌*◌, ◌/◌, ◌%◌, ◌^◌, ◌<◌, ◌≤◌, sym, ap, ◌∙◌, mod-eq_of_lt, arith}
 use Rattle.std.proofs.lemmas.Nat.{field_of, mod-pow-add, mod_low, mod_below, shr_below, pow_pos}
 use Rattle.prefix.specs.Routes.{first}
-use Rattle.prefix.proofs.Nibbles.{rest_of, first_top, first_low}
+use Rattle.prefix.proofs.Nibbles.{rest_of, fits_width, first_top, first_low}
 use Rattle.trie.specs.Places.{step}
 use Rattle.grow.specs.Ways.{depth_of, Ahead}
 
@@ -20,6 +20,12 @@ first_small w l x short small =
 pub ahead_start : (w l x : ℕ) → 0 < l → l ≤ w → x < 2 ^ w → Ahead w l (first w l x) 0 l x
 ahead_start w l x some short small =
     record { some = some; whole = omega arith; short = short; bits = sym (mod-eq_of_lt (first_small w l x short small)) }
+
+-- where its highest nibble is known, which says that the bits are a number of w bits
+pub ahead_root : (w l x k : ℕ) → 4 ≤ w → 0 < l → l ≤ w → k ≡ x / 2 ^ (w - 4) → k < 16 → Ahead w l (first w l x) 0 l x × (first w l x < 2 ^ l)
+ahead_root w l x k wide some short is low =
+    let small = fits_width w x wide (omega arith) in
+    (ahead_start w l x some short small, first_small w l x short small)
 
 module _ {w l q d len rest : ℕ} (h : Ahead w l q d len rest) where
   -- less than a nibble, or just one, is left: this is the last node

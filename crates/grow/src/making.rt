@@ -5,6 +5,7 @@ ghost use Rattle.prefix.specs.Routes.{Route, first};
 ghost use Rattle.prefix.specs.Map.{Hops, hops};
 ghost use Rattle.trie.specs.Shape.{local, TrieOf};
 ghost use Rattle.trie.specs.Places.{step, Along, Apart, Walk};
+ghost use Rattle.grow.specs.Lent.{SameRow};
 ghost use Rattle.grow.specs.Ways.{WayMade, Ahead, Linked, Enough};
 
 use crate::nodes::Nodes;
@@ -44,8 +45,6 @@ pub fn make_way<K: Key>(
 }
 
 impl<'a> Nodes<'a> {
-    ghost use Rattle.grow.specs.Rows.{SameRow};
-
     // Makes the way from the root on, and answers its last node. A loop, so that nothing goes through memory from step to step but the count.
     fn descend<K: Key>(&mut self, prefix: Prefix<K>) -> Option<u32>
         requires some { 0 < prefix.len }

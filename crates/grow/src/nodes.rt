@@ -1,5 +1,6 @@
-// Nodes of a row that is lent to be written: a node is made ready for use, and noted where its name is to be looked for.
+// A row of nodes lent to be written, for the way that is made in it: a node is made ready for use, and where its name is to be looked for is noted.
 ghost use Rattle.std.specs.Prelude.{◌≡◌, ℕ, ◌+◌, ◌*◌, ◌<◌, ◌≤◌, length, slice_index};
+ghost use Rattle.grow.specs.Lent.{Kept};
 
 // A row lent: the first `count` nodes are in use, and from `hints` on stand their hints.
 #[derive(Drop)]
@@ -10,8 +11,6 @@ pub(crate) struct Nodes<'a> {
 }
 
 impl<'a> Nodes<'a> {
-    ghost use Rattle.grow.specs.Rows.{Kept};
-
     // Sixteen cells that say nothing and name no node. A row that is lent may hold anything behind its nodes.
     pub(crate) fn clear_node(&mut self, node: u32)
         requires { 32 * (node + 1) ≤ length self.old.row.now }

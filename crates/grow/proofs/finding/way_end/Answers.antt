@@ -1,26 +1,20 @@
 -- The way down, nibble by nibble: no node of it is missing.
-use Rattle.std.proofs.Common.{ℕ, ◌+◌, ◌<◌, ◌≤◌, sym, ◌∙◌, subst, arith}
+use Rattle.std.proofs.Common.{ℕ, ◌+◌, ◌<◌, sym, ◌∙◌, subst, arith}
 use Rattle.prefix.specs.Words.{width}
 use Rattle.prefix.specs.Routes.{first}
-use Rattle.prefix.proofs.Nibbles.{fits_width}
 use Rattle.trie.specs.Shape.{local, Deeper}
 use Rattle.trie.specs.Places.{Walk}
-use Rattle.grow.proofs.Ahead.{first_small, ahead_start, ahead_last, ahead_step, ahead_on}
+use Rattle.grow.proofs.Ahead.{ahead_root, ahead_last, ahead_step, ahead_on}
 use Rattle.grow.proofs.Walks.{root_walk, step_found}
 use Rattle.grow.proofs.finding.way_end.Goals as goal
 
 pub loop-len-init : goal.loop-len-init
 loop-len-init g c =
     let w : ℕ = width g.K.Key.words in
-    let key = g.met.K.Key.some in
-    let small = fits_width w (g.K.Key.num c.args.prefix.bits) (omega arith) (omega (arith, c.nibble-nibble.ensures.value, c.nibble-nibble.ensures.below)) in
-    let some : 0 < c.args.prefix.len = omega arith in
-    let short : c.args.prefix.len ≤ w = omega arith in (
-      omega arith,
-      c.nibble-nibble.ensures.value,
-      c.nibble-nibble.ensures.below,
-      λ m h n. (0, ahead_start _ _ _ some short small, root_walk _ _ h some (first_small _ _ _ short small)),
-    )
+    let some = g.met.K.Key.some in
+    let nibble = c.nibble-nibble.ensures in
+    let root = ahead_root w c.args.prefix.len (g.K.Key.num c.args.prefix.bits) _ (omega arith) (omega arith) (omega arith) nibble.value nibble.below in
+    (omega arith, nibble.value, nibble.below, λ m h n. (0, root.0, root_walk _ _ h (omega arith) root.1))
 
 pub loop-len-preserved : goal.loop-len-preserved
 loop-len-preserved g c = (

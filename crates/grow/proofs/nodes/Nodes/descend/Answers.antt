@@ -3,11 +3,10 @@ use Rattle.std.proofs.Common.{ℕ, ◌+◌, ◌<◌, length, refl, ◌∙◌, su
 use Rattle.std.proofs.lemmas.Bool.{both_ways}
 use Rattle.prefix.specs.Words.{width}
 use Rattle.prefix.specs.Routes.{first}
-use Rattle.prefix.proofs.Nibbles.{fits_width}
 use Rattle.trie.specs.Shape.{local}
 use Rattle.trie.specs.Places.{Along, Walk}
 use Rattle.grow.specs.Ways.{Enough}
-use Rattle.grow.proofs.Ahead.{first_small, ahead_start, ahead_last, ahead_step, ahead_on}
+use Rattle.grow.proofs.Ahead.{ahead_root, ahead_last, ahead_step, ahead_on}
 use Rattle.grow.proofs.Rooms.{next_room}
 use Rattle.grow.proofs.Walks.{walk_start}
 use Rattle.grow.proofs.nodes.Nodes.descend.Goals as goal
@@ -15,15 +14,10 @@ use Rattle.grow.proofs.nodes.Nodes.descend.Goals as goal
 pub loop-len-init : goal.loop-len-init
 loop-len-init g c =
     let w : ℕ = width g.K.Key.words in
-    let key = g.met.K.Key.some in
-    let small = fits_width w (g.K.Key.num c.args.prefix.bits) (omega arith) (omega (arith, c.nibble-nibble.ensures.value, c.nibble-nibble.ensures.below)) in
-    let some = c.requires.some in
-    let short = c.requires.short in (
-      record { lent = refl; long = refl },
-      c.nibble-nibble.ensures.value,
-      c.nibble-nibble.ensures.below,
-      λ m h. (0, ahead_start _ _ _ some short small, walk_start _ _ h some (first_small _ _ _ short small)),
-    )
+    let some = g.met.K.Key.some in
+    let nibble = c.nibble-nibble.ensures in
+    let root = ahead_root w c.args.prefix.len (g.K.Key.num c.args.prefix.bits) _ (omega arith) c.requires.some c.requires.short nibble.value nibble.below in
+    (record { lent = refl; long = refl }, nibble.value, nibble.below, λ m h. (0, root.0, walk_start _ _ h c.requires.some root.1))
 
 pub loop-len-preserved : goal.loop-len-preserved
 loop-len-preserved g c = (

@@ -5,7 +5,7 @@ use Rattle.prefix.specs.Routes.{first}
 use Rattle.prefix.specs.Map.{Hops}
 use Rattle.trie.specs.Shape.{local, TrieOf}
 use Rattle.trie.specs.Places.{Along, Walk}
-use Rattle.grow.specs.Rows.{SameRow}
+use Rattle.grow.specs.Lent.{SameRow}
 use Rattle.grow.specs.Ways.{Ahead}
 use Rattle.grow.proofs.nodes.Nodes.descend.Given as goal
 
