@@ -6,7 +6,7 @@ ghost use Rattle.prefix.specs.Map.{Hops, hops};
 ghost use Rattle.trie.specs.Shape.{local, TrieOf};
 ghost use Rattle.trie.specs.Places.{step, Along, Apart, Walk};
 ghost use Rattle.grow.specs.Lent.{SameRow};
-ghost use Rattle.grow.specs.Ways.{WayMade, Ahead, Linked, Enough};
+ghost use Rattle.grow.specs.Ways.{WayMade, Linked, Enough};
 
 use crate::nodes::Nodes;
 use prefix::{Key, Prefix};

@@ -2,7 +2,7 @@
 ghost use Rattle.std.specs.Prelude.{◌≡◌, ℕ, ◌+◌, ◌*◌, ◌<◌, ◌≤◌, length, slice_index};
 ghost use Rattle.grow.specs.Lent.{Kept};
 
-// A row lent: the first `count` nodes are in use, and from `hints` on stand their hints.
+// A row lent, right or not: its first `count` nodes are in use, and from `hints` on stand their hints.
 #[derive(Drop)]
 pub(crate) struct Nodes<'a> {
     pub row: &'a mut [u32],
