@@ -1,8 +1,8 @@
 // Changes by chance: routes that lie in one another, for the most part.
-use crate::chance::Chance;
 use prefix::Prefix;
 use routes::{Extent, List};
 use table::Change;
+use trials::{Chance, behind};
 
 // A route to be put: one in three anywhere, the others above or below a route that is there.
 pub(crate) fn any_put(row: &[u32], chance: &mut Chance) -> Change {
@@ -55,13 +55,4 @@ fn near_route(row: &[u32], chance: &mut Chance) -> Option<Prefix<u32>> {
     let bits = held.bits | (chance.next() & behind(held.len as u64));
     let len = chance.next() % 33;
     Some(Prefix { bits, len })
-}
-
-// The bits behind so many.
-pub(crate) fn behind(len: u64) -> u32 {
-    if len < 32 {
-        u32::MAX.wrapping_shr(len as u32)
-    } else {
-        0
-    }
 }

@@ -2,9 +2,8 @@
 #![tactic(auto)]
 
 use anyhow::anyhow;
+use trials::{Chance, Counts, Seen};
 
-mod chance;
-mod damage;
 mod tables;
 
 // Rooms of the tables, and how many changes each goes through.
@@ -17,22 +16,21 @@ fn main(rt: HostRuntime) -> anyhow::Result<()> {
 }
 
 fn run(rt: &HostRuntime) -> anyhow::Result<()> {
-    let mut chance = chance::Chance::from_seed(20_261_117);
+    let mut chance = Chance::from_seed(20_261_117);
     for room in ROOMS {
-        let Some(run) = tables::change_and_compare(rt.alloc(), &mut chance, room, CHANGES) else {
+        let Some(counts) = tables::change_and_compare(rt.alloc(), &mut chance, room, CHANGES) else {
             return Err(anyhow!("no memory for a table"));
         };
-        let tables::Run {
-            ready,
+        let Counts {
+            changes,
             compared,
             differences,
-        } = run;
+        } = counts;
         println!(rt;
-            "room {room}: {ready} changes, {compared} compared, differences {differences}"
+            "room {room}: {changes} changes, {compared} compared, differences {differences}"
         )?;
     }
-    let seen = damage::look_everywhere(&mut chance);
-    let (to, nowhere) = (seen.to, seen.nowhere);
+    let Seen { to, nowhere } = trials::look_everywhere(&mut chance);
     println!(rt; "damaged rows: {to} lookups found a hop, {nowhere} none")?;
     Ok(())
 }
