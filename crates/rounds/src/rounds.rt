@@ -70,10 +70,7 @@ fn change_and_compare(
     change: Change,
     counts: &mut Counts,
 ) {
-    counts.note_change(table::apply(row, change));
-    for address in trials::near_ends(change) {
-        counts.note(trials::agree(row, address));
-    }
+    trials::try_change(row, change, counts);
     for _ in 0..ADDRESSES {
         counts.note(trials::agree(row, chance.next()));
     }

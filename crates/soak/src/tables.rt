@@ -5,6 +5,9 @@ use std::alloc::Global;
 use table::Change;
 use trials::{Chance, Counts};
 
+// How many addresses by chance are compared after each change.
+const ADDRESSES: u32 = 8;
+
 // Changes a table of so much room, and compares. None where there is no memory for it.
 pub(crate) fn change_and_compare(
     heap: Global,
@@ -16,8 +19,8 @@ pub(crate) fn change_and_compare(
     let mut counts = Counts::nothing();
     for _ in 0..changes {
         let change = any_change(&row, chance);
-        counts.note_change(table::apply(&mut row, change));
-        compare_around(&row, chance, change, &mut counts);
+        trials::try_change(&mut row, change, &mut counts);
+        compare_anywhere(&row, chance, &mut counts);
     }
     compare_anew(&mut row, &mut counts);
     Some(counts)
@@ -56,12 +59,9 @@ fn drawn_route(row: &[u32], chance: &mut Chance) -> Option<Prefix<u32>> {
     Some(held)
 }
 
-// Compares at both ends of a change's prefix, next to them, and at some addresses by chance.
-fn compare_around(row: &[u32], chance: &mut Chance, change: Change, counts: &mut Counts) {
-    for address in trials::near_ends(change) {
-        counts.note(trials::agree(row, address));
-    }
-    for _ in 0..8 {
+// Compares at some addresses by chance.
+fn compare_anywhere(row: &[u32], chance: &mut Chance, counts: &mut Counts) {
+    for _ in 0..ADDRESSES {
         counts.note(trials::agree(row, any_address(chance)));
     }
 }

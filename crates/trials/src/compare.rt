@@ -1,10 +1,22 @@
 // The trie beside the plain scan of the list.
-ghost use Rattle.std.specs.Prelude.{◌≡◌, true, ◌==◌};
+ghost use Rattle.std.specs.Prelude.{◌≡◌, true, ◌==◌, length};
 ghost use Rattle.prefix.specs.Routes.{answer};
 ghost use Rattle.table.specs.Right.{Right, listed};
 ghost use Rattle.table.specs.Answers.{found};
+ghost use Rattle.trials.specs.Compare.{Tried, Compared};
 
+use crate::counts::Counts;
+use crate::ends::near_ends;
 use routes::List;
+use table::Change;
+
+// Tries a change, and compares at both ends of its prefix and next to them. In a right table no difference is found.
+pub fn try_change(row: &mut [u32], change: Change, counts: &mut Counts)
+    ensures { Tried row.old row.new change counts.old counts.new }
+{
+    counts.note_change(table::apply(row, change));
+    compare_at(row, &near_ends(change), counts);
+}
 
 // Whether the trie of a row and the scan of its list say the same of an address. In a right table they do.
 pub fn agree(row: &[u32], address: u32) -> bool
@@ -12,4 +24,13 @@ pub fn agree(row: &[u32], address: u32) -> bool
     ensures right { Right 1 row.now → result ≡ true }
 {
     table::lookup(row, address) == List::over(row, 3).scan(address)
+}
+
+// Compares at each of these addresses.
+fn compare_at(row: &[u32], addresses: &[u32], counts: &mut Counts)
+    ensures { Compared row.now (length addresses.now) counts.old counts.new }
+{
+    for address in addresses {
+        counts.note(agree(row, *address));
+    }
 }

@@ -25,7 +25,7 @@ impl Counts {
     }
 
     // Counts a change that was tried, if it was carried out.
-    pub fn note_change(&mut self, done: Done)
+    pub(crate) fn note_change(&mut self, done: Done)
         ensures { self.new ≡ tried self.old done }
     {
         if done == Done::Ready {

@@ -5,7 +5,7 @@ ghost use Rattle.trials.specs.Ends.{behind, prefix_of, near_ends};
 use table::Change;
 
 // The first address of a change's prefix, the last, the one before the first and the one after the last, going round at 0. Bits behind the length stay in the first.
-pub fn near_ends(change: Change) -> [u32; 4]
+pub(crate) fn near_ends(change: Change) -> [u32; 4]
     ensures { result ≡ near_ends change }
 {
     let (first, len) = prefix_of(change);

@@ -9,8 +9,8 @@ mod ends;
 mod tables;
 
 pub use chance::Chance;
-pub use compare::agree;
+pub use compare::{agree, try_change};
 pub use counts::Counts;
 pub use damage::{Seen, look_everywhere};
-pub use ends::{behind, near_ends, prefix_of};
+pub use ends::{behind, prefix_of};
 pub use tables::empty_table;
