@@ -4,9 +4,9 @@ use Rattle.table.specs.declared.entries.Done.{Done}
 use Rattle.table.specs.declared.entries.Done.TheVariants.{Ready}
 use Rattle.trials.specs.declared.counts.Counts.{Counts}
 
--- so many more, or the largest number of 64 bits
-abbrev pub more : (n count : ℕ) → ℕ
-more n count = min (count + n) (2 ^ 64 - 1)
+-- one more; the largest number of 64 bits stays
+abbrev pub more : ℕ → ℕ
+more n = min (n + 1) (2 ^ 64 - 1)
 
 -- before the run
 abbrev pub nothing : Counts
@@ -14,10 +14,10 @@ nothing = record { changes = 0; compared = 0; differences = 0 }
 
 -- a change that was tried counts if it was carried out
 abbrev pub tried : Counts → Done → Counts
-tried c Ready = record c { changes = more 1 c.changes }
+tried c Ready = record c { changes = more c.changes }
 tried c _ = c
 
 -- what was compared counts, and is a difference if it was not the same
 abbrev pub noted : Counts → Bool → Counts
-noted c true = record c { compared = more 1 c.compared }
-noted c false = record c { compared = more 1 c.compared; differences = more 1 c.differences }
+noted c true = record c { compared = more c.compared }
+noted c false = record c { compared = more c.compared; differences = more c.differences }

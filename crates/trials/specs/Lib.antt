@@ -1,5 +1,5 @@
 -- The definitions that the contracts of `trials` cite, for the readers of those contracts.
 pub mod Chance
 pub mod Counts
-pub mod Compare
 pub mod Ends
+pub mod Compare

@@ -1,9 +1,7 @@
 // The trie beside the plain scan of the list.
-ghost use Rattle.std.specs.Prelude.{◌≡◌, true, ◌==◌, length};
-ghost use Rattle.prefix.specs.Routes.{answer};
-ghost use Rattle.table.specs.Right.{Right, listed};
-ghost use Rattle.table.specs.Answers.{found};
-ghost use Rattle.trials.specs.Compare.{Tried, Compared};
+ghost use Rattle.std.specs.Prelude.{◌≡◌, true};
+ghost use Rattle.table.specs.Right.{Right};
+ghost use Rattle.trials.specs.Compare.{agree, compared, Tried};
 
 use crate::counts::Counts;
 use crate::ends::near_ends;
@@ -20,7 +18,7 @@ pub fn try_change(row: &mut [u32], change: Change, counts: &mut Counts)
 
 // Whether the trie of a row and the scan of its list say the same of an address. In a right table they do.
 pub fn agree(row: &[u32], address: u32) -> bool
-    ensures value { result ≡ (found 1 row.now address == answer 32 (listed 1 row.now) address) }
+    ensures value { result ≡ agree row.now address }
     ensures right { Right 1 row.now → result ≡ true }
 {
     table::lookup(row, address) == List::over(row, 3).scan(address)
@@ -28,7 +26,8 @@ pub fn agree(row: &[u32], address: u32) -> bool
 
 // Compares at each of these addresses.
 fn compare_at(row: &[u32], addresses: &[u32], counts: &mut Counts)
-    ensures { Compared row.now (length addresses.now) counts.old counts.new }
+    ensures counts { counts.new ≡ compared row.now addresses.now counts.old }
+    ensures right { Right 1 row.now → counts.new.differences ≡ counts.old.differences }
 {
     for address in addresses {
         counts.note(agree(row, *address));
