@@ -5,8 +5,9 @@ mod draws;
 mod rounds;
 
 use anyhow::anyhow;
+use rounds::Trial;
 use std::env;
-use trials::{Chance, Counts, Seen, empty_table};
+use trials::{Chance, Counts, Seen};
 
 // Rooms of the tables.
 const ROOMS: [u32; 5] = [1, 2, 7, 100, 5000];
@@ -48,15 +49,13 @@ fn number(word: Option<String>, otherwise: u64) -> anyhow::Result<u64> {
 
 // Fills and empties a table so many times.
 fn soak(rt: &HostRuntime, chance: &mut Chance, room: u32, rounds: u64) -> anyhow::Result<Counts> {
-    let heap = rt.alloc();
-    let (Some(mut row), Some(mut anew)) = (empty_table(heap, room), empty_table(heap, room)) else {
+    let Some(mut trial) = Trial::begin(rt.alloc(), room) else {
         return Err(anyhow!("no memory for a table"));
     };
-    let mut counts = Counts::nothing();
     for round in 0..rounds {
-        rounds::fill(&mut row, &mut anew, chance, room, &mut counts);
-        rounds::stir(&mut row, &mut anew, chance, &mut counts);
-        rounds::drain(&mut row, &mut anew, chance, room, &mut counts);
+        trial.fill(chance, room);
+        trial.stir(chance);
+        trial.drain(chance, room);
         if rounds > 1 {
             let done = round.saturating_add(1);
             eprintln!(rt; "room {room}: {done} of {rounds} rounds")?;
@@ -66,9 +65,9 @@ fn soak(rt: &HostRuntime, chance: &mut Chance, room: u32, rounds: u64) -> anyhow
         changes,
         compared,
         differences,
-    } = counts;
+    } = trial.counts;
     println!(rt;
         "room {room}: {changes} changes, {compared} numbers compared, differences {differences}"
     )?;
-    Ok(counts)
+    Ok(trial.counts)
 }
