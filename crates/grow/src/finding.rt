@@ -1,5 +1,5 @@
 // The way to a prefix that the trie has: its last node is found, and nothing is made.
-ghost use Rattle.std.specs.Prelude.{◌≡◌, ℕ, ◌+◌, ◌*◌, ◌<◌, ◌≤◌, ◌≢◌, length, is_some, true, IfSome, MatchOption, slice_index};
+ghost use Rattle.std.specs.Prelude.{◌≡◌, ◌+◌, ◌*◌, ◌<◌, ◌≤◌, ◌≢◌, length, is_some, true, IfSome, MatchOption, slice_index};
 ghost use Rattle.prefix.specs.Words.{width};
 ghost use Rattle.prefix.specs.Routes.{first};
 ghost use Rattle.prefix.specs.Map.{Hops};

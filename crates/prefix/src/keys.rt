@@ -1,5 +1,5 @@
 // Keys: the numbers that are looked up, addresses of 32 bits now. Everything above is written once over this trait, so that longer addresses are one more `impl`.
-ghost use Rattle.std.specs.Prelude.{◌≡◌, ℕ, ◌+◌, ◌-◌, ◌*◌, ◌/◌, ◌%◌, ◌^◌, ◌<◌, ◌≤◌, length, ◌==◌, nat_lt, slice_index};
+ghost use Rattle.std.specs.Prelude.{◌≡◌, ℕ, ◌+◌, ◌-◌, ◌*◌, ◌/◌, ◌%◌, ◌^◌, ◌<◌, ◌≤◌, length, ◌==◌, slice_index};
 ghost use Rattle.prefix.specs.Words.{loaded, width};
 ghost use Rattle.prefix.specs.Routes.{first};
 ghost use Rattle.std.specs.Ordering.{nat_cmp};

@@ -1,10 +1,9 @@
 // Changes of the list in place: what stands behind the change is lent on and shifted, in one piece. They take the row and its stride, and no struct: one that held the `&mut` would owe a clause more in each function, and its caller one more call, and nothing here needs the row twice.
-ghost use Rattle.std.specs.Prelude.{◌≡◌, ℕ, suc, ◌+◌, ◌-◌, ◌<◌, ◌≤◌, length, slice_index, slice_set};
-ghost use Rattle.prefix.specs.Words.{loaded};
+ghost use Rattle.std.specs.Prelude.{◌≡◌, ℕ, ◌+◌, ◌-◌, ◌<◌, ◌≤◌, length, slice_index, slice_set};
 ghost use Rattle.prefix.specs.Routes.{route_of};
 ghost use Rattle.routes.specs.Rows.{slot, count_in, room_in, routes};
 ghost use Rattle.routes.specs.Gaps.{Opened, Closed, Written};
-ghost use Rattle.routes.specs.Changes.{Added, Replaced, Removed, InsertSays, InsertKeeps, RemoveSays, RemoveKeeps};
+ghost use Rattle.routes.specs.Changes.{Added, Removed, InsertSays, InsertKeeps, RemoveSays, RemoveKeeps};
 
 use crate::rows::{Extent, List, slot_at};
 use prefix::{Key, Prefix};

@@ -1,8 +1,6 @@
 // The default and the trie follow the list: after a route has come into the list or gone from it, they are made those of the list again, in place.
-ghost use Rattle.std.specs.Prelude.{◌≡◌, ℕ, ◌+◌, ◌<◌, ◌≤◌, length, is_some};
-ghost use Rattle.prefix.specs.Map.{told};
-ghost use Rattle.table.specs.Right.{room, default_at};
-ghost use Rattle.table.specs.Follows.{Front, Entered, Left, Last, DefaultSet};
+ghost use Rattle.std.specs.Prelude.{◌<◌, is_some};
+ghost use Rattle.table.specs.Follows.{Front, Entered, Left, Last};
 
 use crate::lends::Parts;
 use crate::parts::default_place;

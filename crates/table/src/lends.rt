@@ -9,7 +9,7 @@ ghost use Rattle.grow.specs.Ways.{depth_of, WayMade, WayFound};
 ghost use Rattle.grow.specs.Cells.{Says};
 ghost use Rattle.prune.specs.Free.{WithWay};
 ghost use Rattle.table.specs.Right.{room, default_at, listed, default, nodes, trie, Mapped};
-ghost use Rattle.table.specs.Follows.{Front, Beside, Last, Renewed, DefaultSet};
+ghost use Rattle.table.specs.Follows.{Beside, Last, Renewed, DefaultSet};
 
 use crate::parts::held;
 use crate::words::words_of;
