@@ -1,4 +1,4 @@
-// The part of a row in which the routes beneath a prefix stand, for keys of any words. Both ends are found by halving.
+// The part of a row in which the routes beneath a prefix stand, for keys of any words. Both ends are found by halving. The row comes with its stride, and not as a list, since what is lent is a part of the row.
 ghost use Rattle.std.specs.Prelude.{◌≡◌, ◌+◌, ◌-◌, ◌*◌, ◌^◌, ◌≤◌, length, take, drop};
 ghost use Rattle.prefix.specs.Words.{width};
 ghost use Rattle.prefix.specs.Routes.{route_of, first, beneath};
@@ -55,7 +55,7 @@ fn lend<'a>(row: &'a [u32], stride: usize, from: usize, count: usize) -> &'a [u3
     &row[start..end]
 }
 
-// The prefix with only zeros behind its length.
+// The prefix with only zeros behind its length, which the caller has tested.
 fn start_of<K: Key>(prefix: Prefix<K>) -> Prefix<K>
     requires { prefix.len ≤ width K.Key.words }
     ensures bits { K.Key.num result.bits ≡ first (width K.Key.words) prefix.len (K.Key.num prefix.bits) * 2 ^ (width K.Key.words - prefix.len) }

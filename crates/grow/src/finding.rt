@@ -21,6 +21,7 @@ pub fn way_end<K: Key>(nodes: &[u32], count: u32, prefix: Prefix<K>) -> Option<u
     let mut rest = prefix.bits;
     let mut len = prefix.len;
     let mut nibble = rest.nibble();
+    // What is left of the prefix falls, and is no index: an iterator of nibbles would carry the same two variables.
     while len > 4 {
         node = named(nodes, count, node, nibble)?;
         rest = rest.rest();

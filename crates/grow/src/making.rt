@@ -45,7 +45,7 @@ pub fn make_way<K: Key>(
 }
 
 impl<'a> Nodes<'a> {
-    // Makes the way from the root on, and answers its last node. A loop, so that nothing goes through memory from step to step but the count.
+    // Makes the way of a prefix that `make_way` has tested, from the root on, and answers its last node. A loop, so that nothing goes through memory from step to step but the count.
     fn descend<K: Key>(&mut self, prefix: Prefix<K>) -> Option<u32>
         requires some { 0 < prefix.len }
         requires short { prefix.len ≤ width K.Key.words }
@@ -57,6 +57,7 @@ impl<'a> Nodes<'a> {
         let mut rest = prefix.bits;
         let mut len = prefix.len;
         let mut nibble = rest.nibble();
+        // As in `way_end`, by what is left of the prefix.
         while len > 4 {
             node = self.step_down(node, nibble)?;
             rest = rest.rest();

@@ -83,7 +83,7 @@ fn behind(len: u32) -> u32
     }
 }
 
-// Whether two keys have the first `len` bits in common.
+// Whether two keys have the first `len` bits in common. The caller has cut the length to a key's.
 fn begins<K: Key>(key: K, bits: K, len: u32) -> bool
     requires { len ≤ width K.Key.words }
     ensures { result ≡ (first (width K.Key.words) len (K.Key.num key) == first (width K.Key.words) len (K.Key.num bits)) }
@@ -99,7 +99,7 @@ fn begins<K: Key>(key: K, bits: K, len: u32) -> bool
     begins(key.rest(), bits.rest(), len - 4)
 }
 
-// Whether all bits behind the first `len` are 0.
+// Whether all bits behind the first `len` are 0. The caller has tested the length.
 fn zero_behind<K: Key>(bits: K, len: u32) -> bool
     requires { len ≤ width K.Key.words }
     ensures small { K.Key.num bits < 2 ^ width K.Key.words }

@@ -50,7 +50,7 @@ impl End {
         }
     }
 
-    // Goes down from the root to the last node of the way to a prefix; None where the row is not right.
+    // Goes down from the root to the last node of the way to a prefix, of which `cut_off` has tested the length; None where the row is not right.
     fn go_down<K: Key>(&mut self, nodes: &[u32], count: u32, prefix: Prefix<K>) -> Option<()>
         requires root { self.old.last ≡ 0 }
         requires none { self.old.free.left ≡ 0 }
@@ -62,6 +62,7 @@ impl End {
     {
         let mut rest = prefix.bits;
         let mut len = prefix.len;
+        // By what is left of the prefix, as `grow` makes the way.
         while len > 4 {
             self.go_on(nodes, count, rest.nibble())?;
             rest = rest.rest();

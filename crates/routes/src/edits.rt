@@ -1,4 +1,4 @@
-// Changes of the list in place: what stands behind the change is lent on and shifted, in one piece. They take the row and its stride, and no struct: one that held the `&mut` would owe a clause more in each function, and its caller one more call, and nothing here needs the row twice.
+// Changes of the list in place: what stands behind the change is lent on and shifted, in one piece. They take the row and its stride, and no struct: one that held the `&mut` would owe a clause more in each function, that it is still the same row, for two calls.
 ghost use Rattle.std.specs.Prelude.{◌≡◌, ℕ, ◌+◌, ◌-◌, ◌<◌, ◌≤◌, length, slice_index, slice_set};
 ghost use Rattle.prefix.specs.Routes.{route_of};
 ghost use Rattle.routes.specs.Rows.{slot, count_in, room_in, routes};

@@ -87,6 +87,7 @@ fn replace(heap: Global, row: &mut Vec<u32>, room: u64) -> Reply
     }
 }
 
+// Beside `away`: one function for both would take a change and, again, the numbers that it is made of.
 fn put(row: &mut [u32], bits: u32, len: u64, hop: u64) -> Reply
     ensures { Changes row.old row.new (Put bits len hop) len hop result }
 {

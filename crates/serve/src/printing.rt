@@ -59,7 +59,7 @@ fn write_routes<W: fmt::Write>(
     ensures { WritesOnOk W.write_str_gives f.old result (lines opening.now (between from to (routes 1 3 row.now))) f.new }
 {
     let list = List::over(row, 3);
-    // By place: `skip` would step over all that come before.
+    // By place, in which the places replied are told: `skip` would step over all that come before, and the invariant would count what it took.
     for k in from..to {
         let Some((prefix, hop)) = list.route(k) else {
             break;

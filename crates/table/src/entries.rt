@@ -107,7 +107,7 @@ pub fn carry_out(table: &mut [u32], changes: &[Change])
     }
 }
 
-// How many nodes the trie of a table has; 0 where the row has not the parts of a table.
+// How many nodes the trie of a table has. It cannot fail: a row that has not the parts of a table has none.
 pub fn nodes(table: &[u32]) -> u32
     ensures { result ≡ nodes 1 table.now }
 {
@@ -117,7 +117,7 @@ pub fn nodes(table: &[u32]) -> u32
     }
 }
 
-// The prefix that bits and a length are, if they are one.
+// The prefix that bits and a length are, if they are one: a length that a key has, and then zeros behind it.
 fn good_prefix(bits: u32, len: u64) -> Option<Prefix<u32>>
     ensures { MatchOption result (good_prefix 32 len bits ≡ false) (λ p. (good_prefix 32 len bits ≡ true) × (p.bits ≡ bits) × (p.len ≡ len)) }
 {

@@ -1,4 +1,4 @@
-// The default and the trie follow the list: after a route has come into the list or gone from it, they are made those of the list again, in place.
+// The default and the trie follow the list: after a route has come into the list or gone from it, they are made those of the list again, in place. The three functions begin alike, and each ends in steps of its own: a closure for these would have to promise, of any map, what they leave.
 ghost use Rattle.std.specs.Prelude.{◌<◌, is_some};
 ghost use Rattle.table.specs.Follows.{Front, Entered, Left, Last};
 

@@ -16,7 +16,7 @@ use crate::words::words_of;
 use prefix::{Key, Prefix, word_of};
 use std::marker::PhantomData;
 
-// A row that has the parts of a table, lent to be changed. Its room stays, so that its default stays where it stands.
+// A row that has the parts of a table, lent to be changed. Its room stays, so that its default stays where it stands. Each method that writes says by `lent` that it is still the same row, by which its owner learns what the row holds.
 #[derive(Drop)]
 pub(crate) struct Parts<'a, K: Key> {
     row: &'a mut [u32],

@@ -41,7 +41,7 @@ fn word<K: Key>(table: &[u32], path: K, depth: u32, mask: u16, k: u32) -> u32
     }
 }
 
-// What a cell holds: one more than the hop of the longest route of at most `len` and more than `len - more` bits whose prefix the path begins with; 0 where there is none.
+// What a cell holds: one more than the hop of the longest route of at most `len` and more than `len - more` bits whose prefix the path begins with; 0 where there is none. The caller's depth is one that a key has.
 fn longest_of<K: Key>(table: &[u32], path: K, len: u32, more: u32) -> u32
     requires short { len ≤ width K.Key.words }
     requires below { K.Key.num path < 2 ^ len }

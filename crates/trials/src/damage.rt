@@ -16,7 +16,7 @@ pub struct Seen {
     pub nowhere: u64,
 }
 
-// Looks addresses up in so many rows, each of them of other numbers.
+// Looks addresses up in so many rows, each of them of other numbers. The contract counts the lookups; how many find a hop is pinned by what the programs print.
 pub fn look_everywhere(chance: &mut Chance) -> Seen
     ensures { result.to + result.nowhere ≡ ROWS * ADDRESSES }
 {

@@ -4,7 +4,7 @@ ghost use Rattle.table.specs.Right.{Right, room, listed};
 
 use std::alloc::Global;
 
-// An empty table with so much room, or none where there is no memory for it. `serve::make` does so too, of a number as it was read: the crate of the table, on which both stand, takes no heap.
+// An empty table with so much room, or none where there is no memory for it. `serve::make` does so too, of a number as it was read: to call that would bring all that reads and writes text beneath the trials, and the crate of the table takes no heap.
 pub fn empty_table(heap: Global, wanted: u32) -> Option<Vec<u32>>
     ensures { IfSome result (λ v. Right 1 v.items × (listed 1 v.items ≡ []) × (room v.items ≡ wanted)) }
 {

@@ -1,7 +1,0 @@
--- A bit, moved down to the last place.
-use Rattle.std.proofs.Common.{ℕ, ◌/◌, ◌^◌, eqb, ap}
-use Rattle.std.proofs.lemmas.Nat.{and_mask}
-use Rattle.grow.proofs.masks.has.Goals as goal
-
-pub returns : goal.returns
-returns c = ap (λ (n : ℕ). eqb n 1) (and_mask (c.args.mask / 2 ^ c.args.k) 1)
