@@ -1,5 +1,5 @@
 -- Hops as words: which of two is told. Assumes nothing.
-use Rattle.std.proofs.Common.{◌≡◌, ℕ, zero, suc, ◌^◌, ◌<◌, Option, Some, None, refl}
+use Rattle.std.proofs.Common.{◌≡◌, ℕ, Option, Some, None, refl}
 use Rattle.std.specs.Option.{option_or}
 use Rattle.prefix.specs.Map.{or_else, told}
 
@@ -7,8 +7,3 @@ use Rattle.prefix.specs.Map.{or_else, told}
 pub told_or : (a b : Option ℕ) → told (option_or a b) ≡ or_else (told a) (told b)
 told_or None b = refl
 told_or (Some hop) b = refl
-
--- and it is no larger than both
-pub low_or : (a b : ℕ) {n : ℕ} → a < n → b < n → or_else a b < n
-low_or zero b h k = k
-low_or (suc a) b h k = h

@@ -1,10 +1,10 @@
 -- Each turn writes one line more.
-use Rattle.std.proofs.Common.{◌≡◌, ℕ, ◌-◌, ◌≤◌, List, ◌++◌, take, drop, sym, refl, ap, ◌∙◌, subst, arith}
+use Rattle.std.proofs.Common.{ℕ, ◌≤◌, List, ◌++◌, sym, refl, ap, ◌∙◌, subst, arith}
 use Rattle.std.specs.Fmt.{HasWritten}
 use Rattle.prefix.specs.Routes.{Route}
 use Rattle.routes.specs.Rows.{routes}
 use Rattle.serve.specs.Replies.{route_line, lines, between}
-use Rattle.serve.proofs.Lines.{lines_none, lines_more, lines_all}
+use Rattle.serve.proofs.Lines.{lines_none, lines_more}
 use Rattle.serve.proofs.Writes.{put_none, put_then}
 use Rattle.serve.proofs.printing.write_routes.Goals as goal
 
@@ -26,14 +26,3 @@ loop-k-preserved g c =
           let before = c.loop-k.invariant.2 plain in
           subst (λ (l : List ℕ). HasWritten g.W.Write.write_str_gives c.args.f.now l c.write_route.new.f) (sym (more ∙ line)) (put_then g.W.Write.write_str_gives c.args.f.now c.loop-k.f c.write_route.new.f _ _ before (c.in_ok-write_route.ensures before.plain refl)),
     )
-
-pub returns-after-loop-k : goal.returns-after-loop-k
-returns-after-loop-k g c plain ok =
-    let most = c.loop-k.invariant.1 in
-    let e : c.loop-k.k - c.args.from ≡ c.args.to - c.args.from = omega arith in
-    subst (λ (n : ℕ). HasWritten g.W.Write.write_str_gives c.args.f.now (lines c.args.opening.now (take n (drop c.args.from (routes 1 3 c.args.row.now)))) c.loop-k.f) e (c.loop-k.invariant.2 plain)
-
-pub returns-in_default : goal.returns-in_default
-returns-in_default g c plain ok =
-    let past = rw (c.over-list.ensures.row, c.over-list.ensures.stride) at c.in_default.ensures in
-    subst (λ (l : List ℕ). HasWritten g.W.Write.write_str_gives c.args.f.now l c.loop-k.f) (lines_all c.args.opening.now (routes 1 3 c.args.row.now) c.args.from c.loop-k.k c.args.to past (omega arith)) (c.loop-k.invariant.2 plain)

@@ -1,13 +1,7 @@
 -- What taking away says; no good route is longer than 32 bits.
-use Rattle.std.proofs.Common.{refl, inl, inr, arith}
+use Rattle.std.proofs.Common.{refl, inr, arith}
 use Rattle.table.proofs.Refusals.{too_long}
 use Rattle.table.proofs.entries.take_away.Goals as goal
 
 pub returns-in_default : goal.returns-in_default
 returns-in_default c right = inr (refl, record { none = too_long c.args.long c.args.bits c.args.table.now right (omega (arith, c.in_default.ensures)); same = refl })
-
-pub returns-in-Some-away : goal.returns-in-Some-away
-returns-in-Some-away c right = let p = c.in-Some.ensures in inl (refl, rw (p.0, p.1) at (c.in-Some-away.ensures right))
-
-pub returns-in-None : goal.returns-in-None
-returns-in-None c right = let p = c.in-Some.ensures in inr (refl, rw (p.0, p.1) at (c.in-None.ensures right))

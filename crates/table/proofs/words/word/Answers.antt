@@ -1,7 +1,5 @@
 -- A marked cell: its path, and the longest of its four lengths.
-use Rattle.std.proofs.Common.{ℕ, ◌+◌, ◌*◌, ◌/◌, ◌^◌, ap, ◌∙◌, arith}
-use Rattle.std.proofs.lemmas.Nat.{and_mask}
-use Rattle.std.proofs.lemmas.Bool.{eqb-true}
+use Rattle.std.proofs.Common.{ℕ, ◌+◌, ◌*◌, ap, ◌∙◌, arith}
 use Rattle.prefix.specs.Words.{width}
 use Rattle.prefix.specs.Map.{hops}
 use Rattle.table.specs.Right.{listed}
@@ -24,7 +22,3 @@ pub returns-then-mask-k-eq1 : goal.returns-then-mask-k-eq1
 returns-then-mask-k-eq1 g c order good mark =
     let m = hops (width g.K.Key.words) (listed g.K.Key.words c.args.table.now) in
     c.longest_of.ensures order good ∙ ap (λ (p : ℕ). down m (4 * c.args.depth + 4) p 4) c.joined.ensures ∙ down_local m c.args.depth (16 * g.K.Key.num c.args.path + c.args.k)
-
-pub returns-else-mask-k-eq1 : goal.returns-else-mask-k-eq1
-returns-else-mask-k-eq1 g c order good mark =
-    absurd (c.if-mask-k-eq1.false (and_mask (c.args.mask / 2 ^ c.args.k) 1 ∙ eqb-true _ _ mark))

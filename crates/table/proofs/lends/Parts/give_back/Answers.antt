@@ -1,6 +1,6 @@
 -- The nodes are lent on, and come back without those that were empty.
-use Rattle.std.proofs.Common.{◌+◌, true≢false, sym, refl}
-use Rattle.table.proofs.Lent.{lent_tail, lent_beside, tail_beside, tail_nodes, tail_trie, part_is, count_is}
+use Rattle.std.proofs.Common.{◌+◌, refl}
+use Rattle.table.proofs.Lent.{lent_tail, tail_beside, tail_nodes, tail_trie, part_is, count_is}
 use Rattle.table.proofs.lends.Parts.give_back.Goals as goal
 
 pub returns : goal.returns
@@ -14,14 +14,5 @@ returns g c =
     record {
       beside = tail_beside g.K.Key.words c.args.self.now.at c.in_ok-left.left c.args.self.now.row.now _ _ c.args.self.now.place t;
       right = λ m held done. rw (part, count) (right m held).0;
-      lent = refl;
-    }
-
-pub returns-in_err-left : goal.returns-in_err-left
-returns-in_err-left g c =
-    let t = lent_tail (c.args.self.now.at + 2) c.args.self.now.row.now c.prune.new.nodes c.args.self.now.inside c.prune.auto.nodes in
-    record {
-      beside = lent_beside g.K.Key.words c.args.self.now.at c.args.self.now.row.now _ _ c.args.self.now.place t;
-      right = λ m held done. absurd (true≢false (sym (rw c.from_residual.ensures at done)));
       lent = refl;
     }

@@ -3,15 +3,6 @@ use Rattle.std.proofs.Common.{refl}
 use Rattle.table.proofs.Lent.{part_is, count_is}
 use Rattle.table.proofs.lends.Parts.way_end.Goals as goal
 
-pub returns-in_err-node : goal.returns-in_err-node
-returns-in_err-node g c =
-    let p = part_is g.K.Key.words c.args.self.now.at c.args.self.now.row.now c.args.self.now.place in
-    let q = count_is g.K.Key.words c.args.self.now.at c.args.self.now.row.now c.args.self.now.place in
-    record {
-      end = λ m held some short there. absurd ((rw (p, q) at (c.in_err-node.ensures.end m)) held some short there);
-      its = rw c.from_residual.ensures tt;
-    }
-
 pub returns : goal.returns
 returns g c =
     let p = part_is g.K.Key.words c.args.self.now.at c.args.self.now.row.now c.args.self.now.place in
