@@ -5,4 +5,3 @@ pub mod Edits
 pub mod Found
 pub mod Map
 pub mod Theorems
-pub mod Words

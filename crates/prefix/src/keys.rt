@@ -1,11 +1,11 @@
 // Keys: the numbers that are looked up, addresses of 32 bits now. Everything above is written once over this trait, so that longer addresses are one more `impl`.
-ghost use Rattle.std.specs.Prelude.{◌≡◌, ℕ, ◌+◌, ◌-◌, ◌*◌, ◌/◌, ◌%◌, ◌^◌, ◌<◌, ◌≤◌, length, ◌==◌, slice_index};
+ghost use Rattle.std.specs.Prelude.{◌≡◌, ℕ, ◌+◌, ◌-◌, ◌*◌, ◌/◌, ◌%◌, ◌^◌, ◌<◌, ◌≤◌, length, ◌==◌, nat_lt, slice_index};
 ghost use Rattle.prefix.specs.Words.{loaded, width};
 ghost use Rattle.prefix.specs.Routes.{first};
-ghost use Rattle.std.specs.Ordering.{nat_cmp};
 ghost use Rattle.std.proofs.Common.{rules};
 
-pub trait Key: Copy + Drop + Ord {
+// Order and equality are methods of the trait: `Ord` as a supertrait would ask four traits more of every key type and, with laws that tie it to the number, leave it no other order.
+pub trait Key: Copy + Drop {
     // The number that the key is.
     ghost num: { Self → ℕ };
 
@@ -27,7 +27,13 @@ pub trait Key: Copy + Drop + Ord {
         ensures before { (k : ℕ) → k < at → slice_index row.new k ≡ slice_index row.old k }
         ensures behind { (k : ℕ) → at + words ≤ k → slice_index row.new k ≡ slice_index row.old k };
 
-    // Beside `==`, so that no key has to be made of 0.
+    fn is_below(self, other: Self) -> bool
+        ensures { result ≡ nat_lt (num self) (num other) };
+
+    fn is_same(self, other: Self) -> bool
+        ensures { result ≡ (num self == num other) };
+
+    // Beside `is_same`, so that no key has to be made of 0.
     fn is_zero(self) -> bool
         ensures { result ≡ (num self == 0) };
 
@@ -61,11 +67,6 @@ pub trait Key: Copy + Drop + Ord {
     fn half(self) -> Self
         ensures { num result ≡ num self / 2 };
 
-    // Keys are equal where their numbers are, and ordered as these.
-    ghost equal: { (a b : Self) → Self.eq a b ≡ (num a == num b) };
-
-    ghost ordered: { (a b : Self) → Self.cmp a b ≡ nat_cmp (num a) (num b) };
-
     ghost some: { 0 < words };
 
     ghost few: { words ≤ 4 };
@@ -75,10 +76,6 @@ impl Key for u32 {
     ghost num = { λ x. x };
 
     ghost words = { 1 };
-
-    ghost equal = { λ a b. Prim.search rules };
-
-    ghost ordered = { λ a b. Prim.search rules };
 
     ghost some = { Prim.search rules };
 
@@ -94,6 +91,14 @@ impl Key for u32 {
 
     fn store(self, row: &mut [u32], at: usize) {
         row[at] = self;
+    }
+
+    fn is_below(self, other: u32) -> bool {
+        self < other
+    }
+
+    fn is_same(self, other: u32) -> bool {
+        self == other
     }
 
     fn is_zero(self) -> bool {

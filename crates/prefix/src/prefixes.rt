@@ -49,18 +49,18 @@ impl<K: Key> Prefix<K> {
         self.len <= other.len && self.matches(other.bits)
     }
 
-    // Whether the two are one prefix.
+    // Whether the two are one prefix, by the key's own methods: a key need not have `==` and `<`, and without them the derived ones are not there.
     pub fn is_same(self, other: Prefix<K>) -> bool
         ensures { (hop hop' : ℕ) → result ≡ same_prefix (route_of (K.Key.num self.bits) self.len hop) (route_of (K.Key.num other.bits) other.len hop') }
     {
-        self == other
+        self.len == other.len && self.bits.is_same(other.bits)
     }
 
     // The order of a route list: by bits, and by length where these are the same.
     pub fn is_before(self, other: Prefix<K>) -> bool
         ensures { (hop hop' : ℕ) → result ≡ before (route_of (K.Key.num self.bits) self.len hop) (route_of (K.Key.num other.bits) other.len hop') }
     {
-        self < other
+        self.bits.is_below(other.bits) || self.bits.is_same(other.bits) && self.len < other.len
     }
 }
 

@@ -117,7 +117,8 @@ impl<'a, K: Key> Parts<'a, K> {
         ensures lent { self.new.row.ghost_name ≡ self.old.row.ghost_name }
     {
         let mask = grow::cells(way.prefix);
-        let words = [word_of(Some(hop)); 16];
+        let word = word_of(Some(hop));
+        let words = [word; 16];
         grow::write_words(&mut self.row[self.at + 2..], way.node, mask, &words)
     }
 

@@ -1,8 +1,8 @@
 // The parts of a table's row, and a lookup over them.
-ghost use Rattle.std.specs.Prelude.{◌≡◌, ℕ, ◌+◌, ◌^◌, ◌<◌, ◌≤◌, length, MatchOption};
+ghost use Rattle.std.specs.Prelude.{◌≡◌, ℕ, ◌+◌, ◌^◌, ◌<◌, ◌≤◌, length, MatchOption, slice_index};
 ghost use Rattle.prefix.specs.Words.{width};
 ghost use Rattle.prefix.specs.Routes.{answer, held, InOrder};
-ghost use Rattle.prefix.specs.Map.{told};
+ghost use Rattle.prefix.specs.Map.{told, or_else};
 ghost use Rattle.table.specs.Right.{Right, room, stride, default_at, listed};
 ghost use Rattle.table.specs.Answers.{found};
 
@@ -18,7 +18,19 @@ pub fn lookup<K: Key>(table: &[u32], key: K) -> Option<u32>
 {
     let at = default_place::<K>(table)?;
     let nodes = &table[at + 2..];
-    Trie::over(nodes).look(key).or(hop_in(table[at]))
+    or_default(Trie::over(nodes).look(key), table, at)
+}
+
+// What the trie found, or else the default, which stands at `at`. A `match` and not `or`, which compiles to conditional moves: an answer from the default would then wait for the whole way down.
+fn or_default(found: Option<u32>, table: &[u32], at: usize) -> Option<u32>
+    requires { at < length table.now }
+    ensures value { told result ≡ or_else (told found) (slice_index table.now at) }
+    ensures low { told found < 2 ^ 32 → told result < 2 ^ 32 }
+{
+    match found {
+        Some(hop) => Some(hop),
+        None => hop_in(table[at]),
+    }
 }
 
 // Where the default stands, if the row has it and the count of nodes.

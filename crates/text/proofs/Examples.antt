@@ -1,13 +1,16 @@
--- Lines and a refusal, and what the specification makes of them, for the readers of `specs/Commands` and `specs/Refusals`. Nothing cites these: they show that the definitions say what they mean.
+-- Lines, a refusal and replies, and what the specification makes of them, for the readers of `specs/Commands`, `specs/Refusals` and `specs/Replies`. Nothing cites these: they show that the definitions say what they mean.
 use Rattle.std.proofs.Common.{◌≡◌, Some, None, codes, refl}
 use Rattle.std.specs.Fmt.{digits as spelt}
 use Rattle.text.specs.declared.lines.Command.TheVariants.{Table, Put, Away, Look, Beneath}
 use Rattle.text.specs.declared.lines.Line.TheVariants.{Blank, Command as Asks}
 use Rattle.text.specs.declared.refusals.Refusal.TheVariants.{Prefix}
+use Rattle.text.specs.declared.replies.Reply.TheVariants.{Refused, Route, Beneath as Count}
 use Rattle.text.specs.Commands.{both, prefix, routed, put, asked, ordered, reads}
+use Rattle.text.specs.Dots.{dots}
 use Rattle.text.specs.Fields.{fields}
 use Rattle.text.specs.Numerals.{value_on, digits, decimal, octet, joined, dotted}
 use Rattle.text.specs.Refusals.{refused}
+use Rattle.text.specs.Replies.{written}
 
 table : reads (codes "table 100") ≡ Some (Asks (Table 100))
 unfolding reads ordered fields asked value_on digits decimal
@@ -76,3 +79,15 @@ unknown = refl
 shown_refused : refused (Prefix 33) ≡ codes "refused 1 at 33"
 unfolding spelt
 shown_refused = refl
+
+shown_route : written (Route 167837696 16 2) ≡ codes "10.1.0.0 16 to 2"
+unfolding dots spelt
+shown_route = refl
+
+shown_reply_refused : written (Refused 1 33) ≡ codes "refused 1 at 33"
+unfolding spelt
+shown_reply_refused = refl
+
+shown_count : written (Count 3) ≡ codes "3 beneath"
+unfolding spelt
+shown_count = refl

@@ -5,3 +5,4 @@ pub mod Fields
 pub mod Laws
 pub mod Numerals
 pub mod Refusals
+pub mod Replies

@@ -1,12 +1,14 @@
 // The trie beside the plain scan of the list.
 ghost use Rattle.std.specs.Prelude.{◌≡◌, true};
+ghost use Rattle.prefix.specs.Map.{told as word_told};
+ghost use Rattle.table.specs.Answers.{told};
 ghost use Rattle.table.specs.Right.{Right};
 ghost use Rattle.trials.specs.Compare.{agree, compared, Tried};
 
 use crate::counts::Counts;
 use crate::ends::near_ends;
 use routes::List;
-use table::Change;
+use table::{Change, Done};
 
 // Tries a change, and compares at both ends of its prefix and next to them. In a right table no difference is found.
 pub fn try_change(row: &mut [u32], change: Change, counts: &mut Counts)
@@ -16,12 +18,22 @@ pub fn try_change(row: &mut [u32], change: Change, counts: &mut Counts)
     compare_at(row, &near_ends(change), counts);
 }
 
-// Whether the trie of a row and the scan of its list say the same of an address. In a right table they do.
+// Whether `table::look`, by which the programs answer, and the scan of the list say the same of an address. In a right table they do.
 pub fn agree(row: &[u32], address: u32) -> bool
     ensures value { result ≡ agree row.now address }
     ensures right { Right 1 row.now → result ≡ true }
 {
-    table::lookup(row, address) == List::over(row, 3).scan(address)
+    table::look(row, address) == answered(List::over(row, 3).scan(address))
+}
+
+// What an entry answers of a hop or none.
+fn answered(hop: Option<u32>) -> Done
+    ensures { result ≡ told (word_told hop) }
+{
+    match hop {
+        Some(hop) => Done::To(hop as u64),
+        None => Done::Nowhere,
+    }
 }
 
 // Compares at each of these addresses.

@@ -1,9 +1,8 @@
 -- The nodes are the row's behind the default and the count, and the trie's lookup answers as the list there.
-use Rattle.std.proofs.Common.{◌≡◌, ℕ, ◌+◌, List, get_or, drop, sym, ap, ◌∙◌, subst}
+use Rattle.std.proofs.Common.{ℕ, ◌+◌, List, get_or, drop, sym, ap, ◌∙◌, subst}
 use Rattle.std.proofs.lemmas.List.{take_rest}
 use Rattle.prefix.specs.Words.{width}
 use Rattle.prefix.specs.Map.{or_else, told, hops}
-use Rattle.prefix.proofs.Words.{told_or}
 use Rattle.trie.specs.Shape.{TrieOf}
 use Rattle.table.specs.Right.{listed, nodes}
 use Rattle.table.proofs.parts.lookup.Goals as goal
@@ -13,10 +12,8 @@ returns-clause-right g c right =
     let words : ℕ = g.K.Key.words in
     let row : List ℕ = c.args.table.now in
     let at = c.in_ok-at.ensures.0 in
-    let inside = c.in_ok-at.ensures.1 in
     let part = c.over.ensures ∙ take_rest row (c.in_ok-at.at + 2) ∙ ap (λ (n : ℕ). drop (n + 2) row) at in
     let place = ap (λ (n : ℕ). get_or row n 0) at in
-    let both : told c.or.result ≡ or_else (told c.look.result) (get_or row c.in_ok-at.at 0) = ap told c.or.ensures ∙ told_or c.look.result c.hop_in.result ∙ ap (or_else (told c.look.result)) c.hop_in.ensures.value in
     let held : TrieOf (width g.K.Key.words) (hops (width g.K.Key.words) (listed g.K.Key.words c.args.table.now)) _ (nodes g.K.Key.words c.args.table.now) =
     subst (λ (t : List ℕ). TrieOf (width words) (hops (width words) (listed words row)) t (nodes words row)) (sym part) right.trie_is in
-    both ∙ ap (or_else (told c.look.result)) (place ∙ right.default_is) ∙ c.look.ensures.agrees (listed words row) (nodes words row) right.proper held
+    c.or_default.ensures.value ∙ ap (or_else (told c.look.result)) (place ∙ right.default_is) ∙ c.look.ensures.agrees (listed words row) (nodes words row) right.proper held

@@ -22,12 +22,12 @@ returns g c =
             count = lent_count g.K.Key.words c.args.self.now.at c.args.self.now.row.now _ _ c.args.self.now.place t;
             fits = rw p at c.write_words.ensures.fits;
             mask = c.cells-mask.result;
-            said = replicate 16 c.word_of-words.result;
+            said = replicate 16 c.word_of-word.result;
             cells = cells;
             says = λ order good k h mark.
                 let word = last_word (width g.K.Key.words) (listed g.K.Key.words c.args.self.now.row.now) last.place (g.K.Key.num c.args.way.now.prefix.bits) c.args.way.now.prefix.len c.args.hop good order last.ends last.is _ _ ((cells k h).0 mark) in
                 let low = last_fits (width g.K.Key.words) (listed g.K.Key.words c.args.self.now.row.now) last.place (g.K.Key.num c.args.way.now.prefix.bits) c.args.way.now.prefix.len c.args.hop good order last.ends last.is in
-                get_or-replicate 16 k c.word_of-words.result 0 h ∙ c.word_of-words.ensures (omega arith) ∙ sym word;
+                get_or-replicate 16 k c.word_of-word.result 0 h ∙ c.word_of-word.ensures (omega arith) ∙ sym word;
             written = λ done. rw part (rw p at (c.write_words.ensures.written done));
           };
       lent = refl;
